@@ -1,0 +1,5 @@
+pub mod Machine
+pub mod Interpreter
+pub mod Views
+pub mod Laws
+pub mod Samples
