@@ -8,7 +8,7 @@ ghost use Rattle.std.specs.Joined.{joined};
 ghost use Rattle.std.specs.Vec.{made};
 ghost use Rattle.bytecode.specs.Instructions.{word};
 ghost use Rattle.bytecode.specs.Layout.{encoded, file};
-ghost use Rattle.bytecode.specs.Files.{held, bytesOf, WriteOutcome, ReadsBack};
+ghost use Rattle.bytecode.specs.Files.{bytesOf, WriteOutcome, ReadsBack};
 use crate::fault::TooShort;
 use crate::sum::check_sum;
 use crate::unit::Unit;
@@ -55,16 +55,16 @@ pub fn write_words(locals: u8, words: &[Word], out: &mut [u8]) -> Result<usize, 
     Ok(end + 2)
 }
 
-/// The words of a unit's instructions, and past them anything.
+/// The word of each entry of a unit's code.
 fn words_of(unit: &Unit) -> [Word; 128]
-    ensures { λ r. ⌜ take (now (unit .entry) .len) r ≡ map word (held (now (unit .entry))) ⌝ }
+    ensures { λ r. ⌜ r ≡ map word (now (unit .entry) .code) ⌝ }
 {
     let mut words = [Word {
         op: 0,
         drops: 0,
         arg: 0,
     }; 128];
-    for place in 0..unit.len {
+    for place in 0..128 {
         words[place] = Word::of(&unit.code[place]);
     }
     words

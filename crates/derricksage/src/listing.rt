@@ -33,14 +33,15 @@ struct Draft {
 impl Draft {
     /// Adds what the next line says.
     fn read_line(&mut self, heap: Global, line: &str) -> Result<(), LineFault> {
-        let words = words_of(heap, line)?;
+        let code = before_comment(line);
+        let words = words_of(heap, code)?;
         if words.is_empty() {
             return Ok(());
         }
         if self.locals.is_none() {
             self.locals = Some(locals_line(heap, words.as_slice())?);
         } else {
-            let word = instruction_line(heap, words.as_slice(), self.words.len())?;
+            let word = instruction_line(heap, code, self.words.len())?;
             self.words.push(word)?;
         }
         Ok(())
@@ -70,13 +71,17 @@ pub fn parse(heap: Global, text: &str) -> Result<Listing, TextFault> {
     }
 }
 
-/// The words of a line before its comment.
-fn words_of(heap: Global, line: &str) -> Result<Vec<&str>, AllocError> {
-    let code = match line.split_once(';') {
+/// The part of a line that its comment leaves.
+fn before_comment(line: &str) -> &str {
+    match line.split_once(';') {
         Some((code, _)) => code,
         None => line,
-    };
-    code.split_ascii_whitespace().collect(heap)
+    }
+}
+
+/// The words of a text.
+fn words_of(heap: Global, text: &str) -> Result<Vec<&str>, AllocError> {
+    text.split_ascii_whitespace().collect(heap)
 }
 
 /// The number of locals that the first line says.
@@ -87,17 +92,14 @@ fn locals_line(heap: Global, words: &[&str]) -> Result<u8, LineFault> {
     }
 }
 
-/// The word of an instruction at `place`, which its line may say.
-fn instruction_line(heap: Global, words: &[&str], place: usize) -> Result<Word, LineFault> {
-    let [first, rest @ ..] = words else {
-        return Err(LineFault::NoInstruction);
+/// The word of an instruction at `place`, which may stand before it with a colon.
+fn instruction_line(heap: Global, code: &str, place: usize) -> Result<Word, LineFault> {
+    let Some((label, rest)) = code.split_once(':') else {
+        return instruction(heap, words_of(heap, code)?.as_slice());
     };
-    match first.strip_suffix(':') {
-        None => instruction(heap, words),
-        Some(label) => match label.parse::<usize>() {
-            Ok(said) if said == place => instruction(heap, rest),
-            _ => Err(LineFault::WrongPlace(place)),
-        },
+    match label.trim().parse::<usize>() {
+        Ok(said) if said == place => instruction(heap, words_of(heap, rest)?.as_slice()),
+        _ => Err(LineFault::WrongPlace(place)),
     }
 }
 

@@ -20,6 +20,7 @@ use Rattle.machine.specs.declared.ending.Ending.the-variants.{Dry, Full}
 use Rattle.machine.specs.Machine.{operate}
 use Rattle.machine.specs.Interpreter.{Held, Result, thenIn, popped, pushed, poppedNumber, poppedFlag, droppedBy, onto, putOrTrap, literal, dropped, copied, exchanged, loaded, stored, combined, negated, branched, taken, given, act}
 
+-- what a flow asks of the next input and of the room for an output
 abbrev pub Asks : Flow → Option ℤ → Bool → Type 0
 Asks Next input room = Unit {0}
 Asks (Jump by) input room = Unit {0}
@@ -27,6 +28,7 @@ Asks Read input room = isSome input ≡ true
 Asks (Write v) input room = room ≡ true
 Asks (Ends e) input room = Unit {0}
 
+-- a flow that comes of an instruction has what it asks
 abbrev pub Good : Option ℤ → Bool → Result → Type 0
 Good input room None = Unit {0}
 Good input room (Some p) = Asks (p .0) input room

@@ -21,7 +21,7 @@ pub length-below : (items : List Value) (h : ℕ) → length (below items h) ≡
 length-below items zero = refl
 length-below items (suc h) = ap suc (length-below items h)
 
-pub below-set : (items : List Value) (h k : ℕ) (v : Value) → h ≤ k → below (set items k v) h ≡ below items h
+below-set : (items : List Value) (h k : ℕ) (v : Value) → h ≤ k → below (set items k v) h ≡ below items h
 below-set items zero k v le = refl
 below-set items (suc h) k v le =
     let ne : h ≢ k = omega arith in
@@ -34,7 +34,7 @@ popped-below items zero lt = absurd (omega arith)
 popped-below items (suc h) lt =
     let e : suc h - 1 ≡ h = omega arith in rw e
 
-pub below-push : (items : List Value) (h : ℕ) (v : Value) → h < length items → below (set items h v) (h + 1) ≡ v ∷ below items h
+below-push : (items : List Value) (h : ℕ) (v : Value) → h < length items → below (set items h v) (h + 1) ≡ v ∷ below items h
 below-push items h v lt =
     let le : h ≤ h = omega arith in
     let e = below-set items h h v le in
@@ -46,7 +46,7 @@ pushed-below items h v lt le =
     let t : ltb (length (below items h)) 8 ≡ true = lt-ltb _ _ (rw length-below lt) in
     rw (t, below-push)
 
-pub drop-below : (items : List Value) (h k : ℕ) → k ≤ h → drop k (below items h) ≡ below items (h - k)
+drop-below : (items : List Value) (h k : ℕ) → k ≤ h → drop k (below items h) ≡ below items (h - k)
 drop-below items h zero le = let e : h - 0 ≡ h = omega arith in rw e
 drop-below items zero (suc k) le = absurd (omega arith)
 drop-below items (suc h) (suc k) le =

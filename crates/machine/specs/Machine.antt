@@ -66,10 +66,12 @@ holds (k ∷ ks) [] = false
 holds (k ∷ ks) (v ∷ stack) = isKind k v && holds ks stack
 
 -- what stands for a value of another kind in the next three is never used: the kinds rule it out
+-- the number in a value; the table looks only where it has asked for a number
 abbrev pub numberIn : Value → ℤ
 numberIn (Num n) = n
 numberIn (Flag b) = pos 0
 
+-- the flag in a value; the table looks only where it has asked for a flag
 abbrev pub flagIn : Value → Bool
 flagIn (Num n) = false
 flagIn (Flag b) = b
@@ -81,6 +83,7 @@ valueAt stack k = getD stack k (Num (pos 0))
 abbrev pub numberAt : List Value → ℕ → ℤ
 numberAt stack k = numberIn (valueAt stack k)
 
+-- the two numbers are equal
 abbrev pub sameZ : ℤ → ℤ → Bool
 sameZ (pos a) (pos b) = eqb a b
 sameZ (pos a) (negsuc b) = false
