@@ -1,4 +1,6 @@
 //! Stack bytecode: instructions, the unit of one routine, and the unit file read and written.
+#![tactic(auto)]
+
 pub mod fault;
 pub mod instr;
 pub mod jump;

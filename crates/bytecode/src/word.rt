@@ -1,5 +1,6 @@
 //! An instruction as the unit file has it.
-ghost use Rattle.std.specs.Prelude.{◌≡◌, Decides};
+ghost use Rattle.std.specs.Prelude.{◌≡◌, ◌↔◌, IsTrue};
+ghost use Rattle.std.specs.Ordering.{on};
 ghost use Rattle.bytecode.specs.Instructions.{word};
 ghost use Rattle.bytecode.specs.Layout.{encoded};
 ghost use Rattle.std.specs.Cmp.Rules.{comparing};
@@ -68,12 +69,15 @@ impl Word {
 }
 
 /// Equal words are those of equal instructions.
-impl PartialEq<Instr> for Instr {
-    ghost equals = { λ x y r. Decides r (x ≡ y) };
+impl PartialEq for Instr {
+    ghost eq = { λ x y. on word ⟦<Word as PartialEq>⟧.eq x y };
 
     ghost laws = { Prim.search (comparing, rules) };
 
-    fn eq(&self, other: &Instr) -> bool {
+    fn eq(&self, other: &Instr) -> bool
+        ensures eq { result ≡ on word ⟦<Word as PartialEq>⟧.eq self.now other.now }
+        ensures decides { IsTrue result ↔ (self.now ≡ other.now) }
+    {
         Word::of(self) == Word::of(other)
     }
 }

@@ -1,4 +1,6 @@
 //! Makes, lists and runs units of stack bytecode.
+#![tactic(auto)]
+
 mod command;
 mod error;
 mod listing;

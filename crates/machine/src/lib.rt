@@ -1,4 +1,6 @@
 //! The machine that runs stack bytecode.
+#![tactic(auto)]
+
 mod act;
 pub mod answer;
 pub mod arith;
