@@ -3,3 +3,4 @@ pub mod Layout
 pub mod Faults
 pub mod Files
 pub mod Cursor
+pub mod Equality

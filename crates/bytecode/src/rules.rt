@@ -78,9 +78,11 @@ impl Instr {
     pub fn may_stand(&self, locals: u8, place: usize, len: usize) -> bool
         ensures { result ≡ standing locals place len self.now }
     {
-        let fitting = match *self {
-            Instr::Load(local) | Instr::Store(local) => local < locals,
-            Instr::Jmp(by) | Instr::Jf(by) | Instr::DropJmp(by) => target(place, by, len).is_some(),
+        let fitting = match self {
+            Instr::Load(local) | Instr::Store(local) => *local < locals,
+            Instr::Jmp(by) | Instr::Jf(by) | Instr::DropJmp(by) => target(
+                place, *by, len,
+            ).is_some(),
             _ => true,
         };
         fitting && (!self.falls_through() || place.saturating_add(1) < len)

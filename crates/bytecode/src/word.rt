@@ -1,10 +1,8 @@
 //! An instruction as the unit file has it.
 ghost use Rattle.std.specs.Prelude.{◌≡◌, ◌↔◌, IsTrue};
-ghost use Rattle.std.specs.Ordering.{on};
 ghost use Rattle.bytecode.specs.Instructions.{word};
 ghost use Rattle.bytecode.specs.Layout.{encoded};
-ghost use Rattle.std.specs.Cmp.Rules.{comparing};
-ghost use Rattle.std.proofs.Common.{rules};
+ghost use Rattle.bytecode.specs.Equality.{same_instr, same_instr_laws};
 
 use crate::instr::Instr;
 
@@ -70,12 +68,12 @@ impl Word {
 
 /// Equal words are those of equal instructions.
 impl PartialEq for Instr {
-    ghost eq = { λ x y. on word ⟦<Word as PartialEq>⟧.eq x y };
+    ghost eq = { same_instr };
 
-    ghost laws = { Prim.search (comparing, rules) };
+    ghost laws = { same_instr_laws };
 
     fn eq(&self, other: &Instr) -> bool
-        ensures eq { result ≡ on word ⟦<Word as PartialEq>⟧.eq self.now other.now }
+        ensures eq { result ≡ same_instr self.now other.now }
         ensures decides { IsTrue result ↔ (self.now ≡ other.now) }
     {
         Word::of(self) == Word::of(other)

@@ -6,7 +6,7 @@ use Rattle.bytecode.proofs.Words.{same_from_spells, spells_from_same, word_one}
 use Rattle.bytecode.proofs.read.decode.Goals as goal
 use Rattle.bytecode.proofs.read.decode.Goals.{In-Some}
 
-fits : (c : In-Some) → SFits w32 c.from-bytes.result.arg
+fits : (c : In-Some) → SFits w32 c.from_bytes.result.arg
 fits c = search rules
 
 -- an instruction that the machine has and that may stand is sound
@@ -21,16 +21,16 @@ pub returns-in-Some : goal.returns-in-Some
 returns-in-Some c =
     let s = c.in-Some.ensures in
     record {
-      same = same_from_spells c.args.part.now c.from-bytes.result (fits (goal.at.returns-in-Some c).In-Some) c.from-bytes.ensures c.in-Some.instr s;
-      allowed = sound_from c.args.locals c.args.place c.args.len c.in-Some.instr s.operands_in_range c.if-may-stand.ensures;
+      same = same_from_spells c.args.part.now c.from_bytes.result (fits (goal.at.returns-in-Some c).In-Some) c.from_bytes.ensures c.in-Some.instr s;
+      allowed = sound_from c.args.locals c.args.place c.args.len c.in-Some.instr s.operands_in_range c.if-may_stand.ensures;
     }
 
-pub returns-in-default : goal.returns-in-default
-returns-in-default c = (
+pub returns-in_default : goal.returns-in_default
+returns-in_default c = (
   refl,
   λ i r.
       let allowed = and_parts (in_range (row i).operands) (standing c.args.locals c.args.place c.args.len i) r.allowed in
-      let s = spells_from_same c.args.part.now c.from-bytes.result (fits (goal.at.returns-in-default c).In-Some) c.from-bytes.ensures i r.same allowed.0 in
+      let s = spells_from_same c.args.part.now c.from_bytes.result (fits (goal.at.returns-in_default c).In-Some) c.from_bytes.ensures i r.same allowed.0 in
       let e = word_one i c.in-Some.instr (s.same ∙ sym c.in-Some.ensures.same) in
-      unsound c.args.locals c.args.place c.args.len i c.in-Some.instr e c.if-may-stand.ensures allowed.1,
+      unsound c.args.locals c.args.place c.args.len i c.in-Some.instr e c.if-may_stand.ensures allowed.1,
 )

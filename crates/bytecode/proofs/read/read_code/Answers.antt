@@ -17,15 +17,15 @@ inside c =
 pub loop-place-init : goal.loop-place-init
 loop-place-init c = subst (ReadSoFar c.args.file.now c.args.len _ c.new-parts.result.rest.now) (sym c.new-parts.ensures.place) (read_none c.args.file.now c.args.len _ c.new-parts.ensures.rest)
 
-pub returns-in-err-code : goal.returns-in-err-code
-returns-in-err-code c =
-    let p = err_from_is_err_and c.from-residual.result c.from-residual.ensures.1 in
-    let e = c.in-err-code.ensures in
+pub returns-in_err-code : goal.returns-in_err-code
+returns-in_err-code c =
+    let p = err_from_is_err_and c.from_residual.result c.from_residual.ensures.1 in
+    let e = c.in_err-code.ensures in
     let t = c.in-Some.ensures in
-    rw (p.1, p.2) (read_stops c.args.file.now c.args.len c.requires c.loop-place.code _ _ c.loop-place.invariant _ _ _ t.place_is (left (goal.at.returns-in-err-code c).In-Some) t.part_is e.1 e.0)
+    rw (p.1, p.2) (read_stops c.args.file.now c.args.len c.requires c.loop-place.code _ _ c.loop-place.invariant _ _ _ t.place_is (left (goal.at.returns-in_err-code c).In-Some) t.part_is e.1 e.0)
 
-pub offset-bounds-code-place : goal.offset-bounds-code-place
-offset-bounds-code-place c = let lt = inside (goal.at.offset-bounds-code-place c).In-Some in record { fits = omega arith }
+pub offset_bounds-code-place : goal.offset_bounds-code-place
+offset_bounds-code-place c = let lt = inside (goal.at.offset_bounds-code-place c).In-Some in record { fits = omega arith }
 
 pub bounds-code-place : goal.bounds-code-place
 bounds-code-place c = let lt = inside (goal.at.bounds-code-place c).In-Some in omega arith
@@ -33,9 +33,9 @@ bounds-code-place c = let lt = inside (goal.at.bounds-code-place c).In-Some in o
 pub loop-place-preserved : goal.loop-place-preserved
 loop-place-preserved c =
     let t = c.in-Some.ensures in
-    subst (ReadSoFar c.args.file.now c.args.len (set c.loop-place.code c.in-Some.place c.in-ok-code.field-0) c.next.new.self.rest.now) (sym t.next_place) (read_more c.args.file.now c.args.len c.requires c.loop-place.code _ _ c.loop-place.invariant _ _ _ _ t.place_is (left (goal.at.loop-place-preserved c).In-Some) t.part_is t.rest_is c.in-ok-code.ensures)
+    subst (ReadSoFar c.args.file.now c.args.len (set c.loop-place.code c.in-Some.place c.in_ok-code.field-0) c.next.new.self.rest.now) (sym t.next_place) (read_more c.args.file.now c.args.len c.requires c.loop-place.code _ _ c.loop-place.invariant _ _ _ _ t.place_is (left (goal.at.loop-place-preserved c).In-Some) t.part_is t.rest_is c.in_ok-code.ensures)
 
 pub returns : goal.returns
 returns c =
-    let done = all_read c.args.file.now c.args.len c.requires c.loop-place.code _ _ c.loop-place.invariant c.in-default.ensures.few in
+    let done = all_read c.args.file.now c.args.len c.requires c.loop-place.code _ _ c.loop-place.invariant c.in_default.ensures.few in
     record { whole = c.loop-place.invariant.whole; reads = λ k h. c.loop-place.invariant.reads k (omega arith); blank = λ k h most. c.loop-place.invariant.blank k h }

@@ -7,4 +7,4 @@ returns c =
     let k = length c.args.bytes.now in
     let same : c.args.at + k - c.args.at ≡ k = omega arith in
     let past = drop-drop k c.args.at c.args.out.now in
-    cc c.copy-from-slice.ensures.after
+    cc c.copy_from_slice.ensures.after

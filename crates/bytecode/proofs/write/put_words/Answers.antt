@@ -7,7 +7,7 @@ use Rattle.bytecode.proofs.write.put_words.Goals as goal
 
 pub loop-place-preserved : goal.loop-place-preserved
 loop-place-preserved c =
-    c.put.ensures ∙ write_more c.args.out.now c.loop-place.out c.args.words.now c.loop-place.place c.to-bytes.result (omega arith) (omega arith) c.to-bytes.ensures c.loop-place.invariant
+    c.put.ensures ∙ write_more c.args.out.now c.loop-place.out c.args.words.now c.loop-place.place c.to_bytes.result (omega arith) (omega arith) c.to_bytes.ensures c.loop-place.invariant
 
 pub returns : goal.returns
 returns c =

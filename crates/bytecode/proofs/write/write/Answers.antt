@@ -9,6 +9,6 @@ use Rattle.bytecode.proofs.write.write.Goals as goal
 pub returns : goal.returns
 returns c =
     let u = c.args.unit.now in
-    let words = ap (λ k. take k c.words-of-words.result) (omega arith) ∙ ap (take u.len) c.words-of-words.ensures ∙ take-map word u.len u.code in
-    let answer : WriteOutcome (bytes_of u) c.args.out.now c.write-words.new.out c.write-words.result = subst (λ l. WriteOutcome (file u.locals l) c.args.out.now c.write-words.new.out c.write-words.result) words c.write-words.ensures in
-    record { answer = answer; back = write_back u c.args.out.now c.write-words.new.out c.write-words.result answer }
+    let words = ap (λ k. take k c.words_of-words.result) (omega arith) ∙ ap (take u.len) c.words_of-words.ensures ∙ take-map word u.len u.code in
+    let answer : WriteOutcome (bytes_of u) c.args.out.now c.write_words.new.out c.write_words.result = subst (λ l. WriteOutcome (file u.locals l) c.args.out.now c.write_words.new.out c.write_words.result) words c.write_words.ensures in
+    record { answer = answer; back = write_back u c.args.out.now c.write_words.new.out c.write_words.result answer }

@@ -11,17 +11,17 @@ low_16 n =
     let low : n % 65536 % 256 ≡ n % 256 = omega arith in
     cc
 
-pub returns-in-default : goal.returns-in-default
-returns-in-default c = (omega (arith, file_long c.args.locals c.args.words.now, c.in-Some.ensures), refl)
+pub returns-in_default : goal.returns-in_default
+returns-in_default c = (omega (arith, file_long c.args.locals c.args.words.now, c.in-Some.ensures), refl)
 
 pub returns : goal.returns
 returns c =
-    steps_write c.args.out.now c.put.new.out c.put-words.new.out c.put-2.new.out c.args.locals c.check-sum.result (c.in-Some.length - 2) c.args.words.now (1 ∷ c.args.locals ∷ get_or c.to-be-bytes.result 0 0 ∷ get_or c.to-be-bytes.result 1 0 ∷ []) c.to-be-bytes-check.result (record {
+    steps_write c.args.out.now c.put.new.out c.put_words.new.out c.put-2.new.out c.args.locals c.check_sum.result (c.in-Some.length - 2) c.args.words.now (1 ∷ c.args.locals ∷ get_or c.to_be_bytes.result 0 0 ∷ get_or c.to_be_bytes.result 1 0 ∷ []) c.to_be_bytes-check.result (record {
       end_is = omega (arith, c.in-Some.ensures);
-      head_is = ap (λ (l : List ℕ). 1 ∷ c.args.locals ∷ get_or l 0 0 ∷ get_or l 1 0 ∷ []) (c.to-be-bytes.ensures ∙ low_16 (length c.args.words.now));
-      last_is = c.to-be-bytes-check.ensures;
+      head_is = ap (λ (l : List ℕ). 1 ∷ c.args.locals ∷ get_or l 0 0 ∷ get_or l 1 0 ∷ []) (c.to_be_bytes.ensures ∙ low_16 (length c.args.words.now));
+      last_is = c.to_be_bytes-check.ensures;
       first = c.put.ensures;
-      second = c.put-words.ensures;
-      sum_is = c.check-sum.ensures ∙ ap (λ k. check (take k c.put-words.new.out)) (omega arith);
+      second = c.put_words.ensures;
+      sum_is = c.check_sum.ensures ∙ ap (λ k. check (take k c.put_words.new.out)) (omega arith);
       third = c.put-2.ensures;
     })
