@@ -23,11 +23,11 @@ returns-in-Some c =
 
 pub loop-steps-preserved : goal.loop-steps-preserved
 loop-steps-preserved c =
-    let on = c.in-default.ensures.rest in
+    let on = c.in_default.ensures.rest in
     let room : length c.loop-steps.outputs ≡ length c.args.outputs.now = c.loop-steps.auto.outputs in
     record {
       rest =
-          run_more c.args.code.now c.args.inputs.now (length c.args.outputs.now) c.args.budget c.loop-steps.steps (state_of c.loop-steps.progress c.loop-steps.outputs) _ c.loop-steps.invariant.rest c.loop-steps-test.true (state_of c.step.new.self c.step.new.outputs) (length c.loop-steps.outputs) room c.in-default.ensures.turns;
+          run_more c.args.code.now c.args.inputs.now (length c.args.outputs.now) c.args.budget c.loop-steps.steps (state_of c.loop-steps.progress c.loop-steps.outputs) _ c.loop-steps.invariant.rest c.loop-steps-test.true (state_of c.step.new.self c.step.new.outputs) (length c.loop-steps.outputs) room c.in_default.ensures.turns;
       done = omega arith;
       within = on.within;
       past = past_more c.loop-steps.progress c.step.new.self c.loop-steps.outputs c.step.new.outputs c.args.outputs.now on c.loop-steps.invariant.past;

@@ -14,4 +14,4 @@ pub returns-in-Mul : goal.returns-in-Mul
 returns-in-Mul c = rw c.in-Mul.is (ap (λ z. Some (Num z)) (wrapping_mul_is w32 c.args.a c.args.b c.ranges.a c.ranges.b))
 
 pub returns-else-b-eq0 : goal.returns-else-b-eq0
-returns-else-b-eq0 c = rw c.in-Div.is (divided_is c.args.a c.args.b c.wrapping-div.result c.ranges.a c.ranges.b c.wrapping-div.type-inv c.if-b-eq0.false c.wrapping-div.ensures)
+returns-else-b-eq0 c = rw c.in-Div.is (divided_is c.args.a c.args.b c.wrapping_div.result c.ranges.a c.ranges.b c.wrapping_div.type_inv c.if-b-eq0.false c.wrapping_div.ensures)

@@ -14,15 +14,15 @@ returns-then-self-code c = record {
   rest = record { place = refl; used = refl; written = refl; buffer = refl };
 }
 
-pub returns-in-default : goal.returns-in-default
-returns-in-default c = record {
-  turns = turn_in c.args.code.now c.args.inputs.now c.args.outputs.now c.args.self.now c.next-input-input.result None c.if-self-code.false c.requires c.next-input-input.ensures c.in-default.ensures;
+pub returns-in_default : goal.returns-in_default
+returns-in_default c = record {
+  turns = turn_in c.args.code.now c.args.inputs.now c.args.outputs.now c.args.self.now c.next_input-input.result None c.if-self-code.false c.requires c.next_input-input.ensures c.in_default.ensures;
   rest = record { place = refl; used = refl; written = refl; buffer = refl };
 }
 
 -- the instruction is applicable
 worked : (c : In-Some) → follow (length c.args.code.now) (state_of c.args.self.now c.args.outputs.now) c.in-Some.flow (held_of c.act.new.self) ≡ turn c.args.code.now c.args.inputs.now (length c.args.outputs.now) (state_of c.args.self.now c.args.outputs.now)
-worked c = turn_in c.args.code.now c.args.inputs.now c.args.outputs.now c.args.self.now c.next-input-input.result (Some (c.in-Some.flow, held_of c.act.new.self)) c.if-self-code.false c.requires c.next-input-input.ensures c.in-Some.ensures
+worked c = turn_in c.args.code.now c.args.inputs.now c.args.outputs.now c.args.self.now c.next_input-input.result (Some (c.in-Some.flow, held_of c.act.new.self)) c.if-self-code.false c.requires c.next_input-input.ensures c.in-Some.ensures
 
 pub returns-in-Ends : goal.returns-in-Ends
 returns-in-Ends c = record {
@@ -32,25 +32,25 @@ returns-in-Ends c = record {
   rest = record { place = refl; used = refl; written = refl; buffer = refl };
 }
 
-pub returns-in-default-target : goal.returns-in-default-target
-returns-in-default-target c = record {
+pub returns-in_default-target : goal.returns-in_default-target
+returns-in_default-target c = record {
   turns =
-      follow_to (length c.args.code.now) (state_of c.args.self.now c.args.outputs.now) c.in-Some.flow (held_of c.act.new.self) c.distance.result None c.in-default-flow.not-Ends (search rules) c.distance.ensures c.in-default-target.ensures
-      ∙ worked (goal.at.returns-in-default-target c).In-Some;
+      follow_to (length c.args.code.now) (state_of c.args.self.now c.args.outputs.now) c.in-Some.flow (held_of c.act.new.self) c.distance.result None c.in_default-flow.not-Ends (search rules) c.distance.ensures c.in_default-target.ensures
+      ∙ worked (goal.at.returns-in_default-target c).In-Some;
   rest = record { place = refl; used = refl; written = refl; buffer = refl };
 }
 
 pub onward-requires : goal.onward-requires
 onward-requires c = record {
   within = c.requires;
-  able = able (get_or c.args.code.now c.args.self.now.place I.Nop) c.args.inputs.now c.args.self.now.used c.args.self.now.written (length c.args.outputs.now) c.next-input-input.result (held_of c.args.self.now.memory) (held_of c.act.new.self) c.in-Some.flow (search rules) c.next-input-input.ensures c.in-Some.ensures;
+  able = able (get_or c.args.code.now c.args.self.now.place I.Nop) c.args.inputs.now c.args.self.now.used c.args.self.now.written (length c.args.outputs.now) c.next_input-input.result (held_of c.args.self.now.memory) (held_of c.act.new.self) c.in-Some.flow (search rules) c.next_input-input.ensures c.in-Some.ensures;
 }
 
 pub returns : goal.returns
 returns c = record {
   turns =
       ap goes c.onward.ensures.state
-      ∙ follow_to (length c.args.code.now) (state_of c.args.self.now c.args.outputs.now) c.in-Some.flow (held_of c.act.new.self) c.distance.result (Some c.in-Some-target.to) c.in-default-flow.not-Ends (search rules) c.distance.ensures c.in-Some-target.ensures
+      ∙ follow_to (length c.args.code.now) (state_of c.args.self.now c.args.outputs.now) c.in-Some.flow (held_of c.act.new.self) c.distance.result (Some c.in-Some-target.to) c.in_default-flow.not-Ends (search rules) c.distance.ensures c.in-Some-target.ensures
       ∙ worked (goal.at.returns c).In-Some;
   rest = let o = c.onward.ensures.rest in record { more = o.more; within = o.within; rest = o.rest };
 }
