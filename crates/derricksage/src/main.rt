@@ -11,10 +11,7 @@ mod print;
 use crate::error::Error;
 use crate::perform::perform;
 use std::env;
-
-/// The program fails, and has said why.
-#[derive(Clone, Copy)]
-struct Failed;
+use std::process::ExitCode;
 
 /// The words after the program's name.
 fn words(rt: &HostRuntime) -> Result<Vec<String>, Error<'static>> {
@@ -22,18 +19,18 @@ fn words(rt: &HostRuntime) -> Result<Vec<String>, Error<'static>> {
 }
 
 /// Says on standard error why the program fails.
-fn fail(rt: &HostRuntime, error: Error<'_>) -> Result<(), Failed> {
+fn fail(rt: &HostRuntime, error: Error<'_>) -> ExitCode {
     let _ = eprintln!(rt; "{error}");
-    Err(Failed)
+    ExitCode::FAILURE
 }
 
-fn main(rt: HostRuntime) -> Result<(), Failed> {
+fn main(rt: HostRuntime) -> ExitCode {
     let words = match words(&rt) {
         Ok(words) => words,
         Err(error) => return fail(&rt, error),
     };
     match perform(&rt, words.as_slice()) {
-        Ok(()) => Ok(()),
+        Ok(()) => ExitCode::SUCCESS,
         Err(error) => fail(&rt, error),
     }
 }

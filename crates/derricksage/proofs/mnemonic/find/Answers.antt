@@ -8,7 +8,7 @@ pub loop-op-preserved : goal.loop-op-preserved
 loop-op-preserved c =
     below_more _ _ c.loop-op.invariant
     (λ named.
-    (cases_from_iff c.if-eq-ignore-ascii-case.ensures.test)
+    (cases_from_iff c.if-eq_ignore_ascii_case.ensures.test)
     (ap (λ m. map to_ascii_lowercase m.0.now) (get_or_default _ _ _ named.0 c.loop-op-test.true ∙ named.1) ∙ named.2))
 
 pub returns : goal.returns
