@@ -1,7 +1,6 @@
 -- The bytes of a word and of a unit file. Assumes nothing.
 use Rattle.std.specs.Prelude.{ℕ, ◌+◌, ◌*◌, ◌/◌, ◌%◌, List, [], ◌∷◌, ◌++◌, length, take, drop, ℤ, sum, slice_index}
-use Rattle.std.proofs.Common.{of_z}
-use Rattle.std.specs.Int.{w32}
+use Rattle.std.specs.Int.{cast_unsigned, w32}
 use Rattle.std.specs.List.{flat_map}
 use Rattle.bytecode.specs.declared.word.Word.{Word}
 
@@ -11,7 +10,7 @@ be16 x = (x / 256 % 256) ∷ (x % 256) ∷ []
 
 -- a signed number of 32 bits in four bytes, high byte first
 abbrev pub be32 : ℤ → List ℕ
-be32 z = (of_z w32 z / 16777216 % 256) ∷ (of_z w32 z / 65536 % 256) ∷ (of_z w32 z / 256 % 256) ∷ (of_z w32 z % 256) ∷ []
+be32 z = (cast_unsigned w32 z / 16777216 % 256) ∷ (cast_unsigned w32 z / 65536 % 256) ∷ (cast_unsigned w32 z / 256 % 256) ∷ (cast_unsigned w32 z % 256) ∷ []
 
 -- the six bytes of a word
 abbrev pub encoded : Word → List ℕ

@@ -3,5 +3,4 @@ pub mod Interpreter
 pub mod Views
 pub mod Laws
 pub mod Samples
-pub mod Lockstep
-pub mod Entries
+pub mod DeadCode

@@ -1,12 +1,11 @@
 //! Laws of whole runs.
 ghost use Rattle.std.specs.Prelude.{◌≡◌, ℕ, List, ℤ, slice_set};
-ghost use Rattle.std.proofs.Common.{sym, subst};
 ghost use Rattle.bytecode.specs.declared.instr.Instr.{Instr};
 ghost use Rattle.bytecode.specs.declared.instr.Instr.TheVariants.{Halt};
 ghost use Rattle.machine.specs.Machine.{State};
 ghost use Rattle.machine.specs.Laws.{InStep, SameAnswers, DeadHalt, Unreached, SameReached, StaysInside, StuckInapplicable};
 ghost use Rattle.machine.specs.Samples.{Samples};
-ghost use Rattle.machine.specs.Lockstep.{dead_step};
+ghost use Rattle.machine.specs.DeadCode.{dead_code_stands};
 
 /// A rewrite of codes, with the relation that ties the states of the two runs.
 pub trait Simulation {
@@ -32,7 +31,7 @@ impl Simulation for DeadCode {
 
     ghost related = { λ code other inputs room. SameReached code inputs room };
 
-    ghost stands = { λ code other h inputs room. subst (λ x. InStep code x inputs room (SameReached code inputs room)) (sym h.2) (dead_step code h.0 h.1 inputs room) };
+    ghost stands = { dead_code_stands };
 }
 
 /// An instruction that no run comes to may be HALT.

@@ -3,7 +3,7 @@ use Rattle.bytecode.specs.declared.instr.Instr.TheVariants as I
 use Rattle.machine.specs.Machine.{goes, turn}
 use Rattle.machine.specs.Interpreter.{follow}
 use Rattle.machine.specs.Views.{held_of, state_of}
-use Rattle.machine.specs.Entries.{turn_out}
+use Rattle.machine.proofs.Entries.{turn_out}
 use Rattle.machine.proofs.Turns.{turn_in, follow_to, able}
 use Rattle.machine.proofs.progress.Progress.step.Goals as goal
 use Rattle.machine.proofs.progress.Progress.step.Goals.{In-Some}

@@ -1,13 +1,10 @@
--- Codes in step with one another give one answer, and a HALT that no run comes to is in step.
-use Rattle.std.specs.Prelude.{◌≡◌, ℕ, zero, suc, ◌+◌, List, ℤ, slice_set, refl}
-use Rattle.std.proofs.Common.{ap, subst, ◌∙◌}
+-- Codes in step with one another give one answer.
+use Rattle.std.proofs.Common.{◌≡◌, ℕ, zero, suc, ◌+◌, List, ℤ, ap, ◌∙◌}
 use Rattle.bytecode.specs.declared.instr.Instr.{Instr}
-use Rattle.bytecode.specs.declared.instr.Instr.TheVariants as I
 use Rattle.machine.specs.declared.ending.Ending.{Ending}
 use Rattle.machine.specs.declared.ending.Ending.TheVariants.{Running}
 use Rattle.machine.specs.Machine.{State, Turn, ends, goes, start, turn, on_turn, Whole, ends_at, run_from, whole_run}
-use Rattle.machine.specs.Laws.{Alike, TurnsAlike, InStep, Reached, first, later, Unreached, SameReached}
-use Rattle.machine.specs.Entries.{turn-slice_set}
+use Rattle.machine.specs.Laws.{Alike, TurnsAlike, InStep}
 
 pub answer_alike : (e : Ending) (k : ℕ) (s t : State) → Alike s t → ends_at e k s ≡ ends_at e k t
 answer_alike e k s t a =
@@ -27,19 +24,3 @@ module _ (code other : List Instr) (inputs : List ℤ) (room : ℕ) (R : State �
 
   pub lockstep : (budget : ℕ) → whole_run code inputs room budget ≡ whole_run other inputs room budget
   lockstep budget = from_alike budget 0 start start i.starts
-
--- a turn that the other code has too keeps states equal and reached
-pub same_turns : (code : List Instr) (inputs : List ℤ) (room : ℕ) (s : State) → Reached code inputs room s → (u v : Turn) → turn code inputs room s ≡ u → u ≡ v → TurnsAlike (SameReached code inputs room) u v
-same_turns code inputs room s r u v eu ev = subst (TurnsAlike (SameReached code inputs room) u) ev (go u eu)
-  where
-    go : (u : Turn) → turn code inputs room s ≡ u → TurnsAlike (SameReached code inputs room) u u
-    go (ends e) q = refl
-    go (goes t) q = (refl, later r q)
-
-pub dead_step : (code : List Instr) (p : ℕ) → Unreached code p → (inputs : List ℤ) (room : ℕ) → InStep code (slice_set code p I.Halt) inputs room (SameReached code inputs room)
-dead_step code p un inputs room = record {
-  starts = (refl, first);
-  shown = λ s t h. record { place = ap (λ x. x.place) h.0; used = ap (λ x. x.used) h.0; outputs = ap (λ x. x.outputs) h.0 };
-  turns = λ s t h. subst (λ y. TurnsAlike (SameReached code inputs room) (turn code inputs room s) (turn (slice_set code p I.Halt) inputs room y)) h.0
-      (same_turns code inputs room s h.1 (turn code inputs room s) (turn (slice_set code p I.Halt) inputs room s) refl (turn-slice_set code p I.Halt inputs room s (un inputs room s h.1)));
-}
