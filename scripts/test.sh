@@ -1,10 +1,14 @@
 #!/bin/sh
-# Proves every crate from nothing, tries the edits that must be refused, runs the program and the tests, and then the
-# program's command-line cases. Its last line is rt's own.
+# Proves every crate, tries the edits that must be refused, runs the program and the tests, and then the program's
+# command-line cases. Fails where an edit could not be tried. Its last line is rt's own.
 cd "$(dirname "$0")/.." || exit 2
 log=$(mktemp) || exit 2
 trap 'rm -f "$log" "$log.status"' EXIT
 { rt ci; echo $? >"$log.status"; } 2>&1 | tee "$log"
 [ "$(cat "$log.status")" = 0 ] || exit 1
-sh tests/cli/run.sh target/bin/derricksage || exit 1
+if grep -Eq '^rt: ok.*, [0-9]+ bad' "$log"; then
+    echo "an edit that must be refused could not be tried"
+    exit 1
+fi
+sh tests/cli/run.sh crates/derricksage/out/derricksage || exit 1
 tail -n 1 "$log"
