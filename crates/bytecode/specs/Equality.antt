@@ -1,5 +1,5 @@
 -- When two instructions are equal: their words are, in every field. Assumes nothing.
-use Rattle.std.specs.Prelude.{ℕ, Bool, ◌==◌}
+use Rattle.std.specs.Prelude.{Bool, ◌==◌}
 use Rattle.std.specs.Ordering.{on, eq_of_both, int_eq}
 use Rattle.std.specs.Cmp.{IsPartialEquivalence, partial_equiv_from_equiv, nat_eq_equiv, int_eq_equiv, and_equiv, on_equiv}
 use Rattle.bytecode.specs.declared.instr.Instr.{Instr}

@@ -14,7 +14,7 @@ use Rattle.machine.specs.declared.arith.Binary.{Binary}
 use Rattle.machine.specs.declared.arith.Binary.TheVariants as B
 use Rattle.machine.specs.declared.ending.Ending.{Ending}
 use Rattle.machine.specs.declared.ending.Ending.TheVariants.{Running, Halted, Trapped, Dry, Full, Stuck}
-use Rattle.machine.specs.Machine.{State, Turn, ends, goes, flag, flag_in, value_at, number_at, operate, Row, jumps, operates, binary, row, row_in, applicable, arrives, proceeds, turn_at, turn}
+use Rattle.machine.specs.Machine.{State, Turn, ends, goes, flag, flag_in, value_at, number_at, operate, Row, jumps, operates, binary, row, row_in, applicable, arrives, proceeds, turn_at}
 use Rattle.machine.specs.Laws.{Reached, first, later, StaysInside, StuckInapplicable}
 
 -- the turn goes to one of n places, if it goes on
