@@ -1,10 +1,13 @@
 -- Six bytes, the word that they are, and the instruction that it spells.
-use Rattle.std.proofs.Common.{◌≡◌, ℕ, zero, suc, ◌+◌, ◌*◌, ◌/◌, ◌%◌, ◌^◌, ◌<◌, Bool, true, false, cond, leb, List, [], ◌∷◌, length, get_or, ℤ, pos, negsuc, nat_abs, Some, None, Option, sym, refl, ap, ◌∙◌, arith, w32, SFits, to_z, of_z}
+use Rattle.std.proofs.Common.{◌≡◌, ℕ, zero, suc, ◌+◌, ◌*◌, ◌/◌, ◌%◌, ◌^◌, ◌<◌, Bool, true, false, cond, leb, List, [], ◌∷◌, length, get_or, ℤ, pos, negsuc, nat_abs, Some, None, Option, sym, refl, ap, ◌∙◌, subst, arith, ◌==◌, w32, SFits, to_z, of_z}
 use mir.Facts.{sfits_lit}
 use Rattle.std.proofs.lemmas.Nat.{mod-pow-add}
 use Rattle.std.proofs.lemmas.List.{same_lists, places}
 use Rattle.std.proofs.lemmas.Int.{to_z-of_z, of_z-to_z, ints}
-use Rattle.std.proofs.lemmas.Bool.{and_parts, leb-true, ltb-true}
+use Rattle.std.proofs.lemmas.Bool.{and_from, and_parts, leb-true, ltb-true}
+use Rattle.std.specs.Bool.{Decides}
+use Rattle.std.specs.Cmp.{signed_Decides, unsigned_Decides}
+use Rattle.bytecode.specs.Equality.{same_word, same_instr}
 use Rattle.bytecode.specs.declared.instr.Instr.{Instr}
 use Rattle.bytecode.specs.declared.instr.Instr.TheVariants.{Nop, Halt, Lit, LitFlag, Pop, Dup, Swap, Load, Store, Add, Sub, Mul, Div, Eq, Lt, Not, Jmp, Jf, DropJmp, In, Out}
 use Rattle.bytecode.specs.declared.word.Word.{Word}
@@ -112,6 +115,22 @@ again_is Out = refl
 -- a word is that of one instruction
 pub word_one : (i j : Instr) → word i ≡ word j → i ≡ j
 word_one i j e = let p = again_is i in let q = again_is j in let r = ap again e in cc
+
+-- what `==` computes is equality: of words, and so of instructions
+same_word-Decides : (v w : Word) → Decides (same_word v w) (v ≡ w)
+same_word-Decides v w = (
+  λ h.
+      let first = and_parts (v.op == w.op) _ h in
+      let rest = and_parts (v.drops == w.drops) _ first.1 in
+      let op = (unsigned_Decides v.op w.op).0 first.0 in
+      let drops = (unsigned_Decides v.drops w.drops).0 rest.0 in
+      let arg = (signed_Decides v.arg w.arg).0 rest.1 in
+      λ k. record { op = op k; drops = drops k; arg = arg k },
+  λ e. subst (λ x. same_word v x ≡ true) e (and_from _ _ ((unsigned_Decides v.op v.op).1 refl) (and_from _ _ ((unsigned_Decides v.drops v.drops).1 refl) ((signed_Decides v.arg v.arg).1 refl))),
+)
+
+pub same_instr-Decides : (i j : Instr) → Decides (same_instr i j) (i ≡ j)
+same_instr-Decides i j = (λ h. word_one i j ((same_word-Decides (word i) (word j)).0 h), λ e. (same_word-Decides (word i) (word j)).1 (ap word e))
 
 -- the instruction that a word spells has the word's bytes, and no other has
 module _ (bytes : List ℕ) (w : Word) (fits : SFits w32 w.arg) (is : encoded w ≡ bytes) (i : Instr) where
