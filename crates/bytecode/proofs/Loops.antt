@@ -34,11 +34,8 @@ module _ (f : List ℕ) (n : ℕ) (sized : Sized f n) (code : List Instr) (rest 
   rest_long = ap length so_far.rest_is ∙ length-drop (4 + 6 * p) f ∙ ap (λ m. m - (4 + 6 * p)) sized.long
 
   -- six bytes more are left only before the last place
-  pub place_inside : 6 ≤ length rest → p < n
+  place_inside : 6 ≤ length rest → p < n
   place_inside h = omega (arith, rest_long)
-
-  pub all_read : length rest < 6 → n ≤ p
-  all_read h = omega (arith, rest_long)
 
   -- the instruction at the next place, p, is read
   pub read_more : (i : Instr) (q : ℕ) (bytes rest' : List ℕ) → q ≡ p → 6 ≤ length rest → bytes ≡ take 6 rest → rest' ≡ drop 6 rest → Reads bytes (get_or f 1 0) q n i → ReadSoFar f n (set code q i) rest' (q + 1)

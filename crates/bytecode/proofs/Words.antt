@@ -1,9 +1,8 @@
 -- Six bytes, the word that they are, and the instruction that it spells.
-use Rattle.std.proofs.Common.{◌≡◌, ℕ, zero, suc, ◌+◌, ◌*◌, ◌/◌, ◌%◌, ◌^◌, ◌<◌, Bool, true, false, cond, leb, List, [], ◌∷◌, length, get_or, ℤ, pos, negsuc, nat_abs, Some, None, Option, sym, refl, ap, ◌∙◌, subst, arith, ◌==◌, w32, SFits, to_z, of_z}
+use Rattle.std.proofs.Common.{◌≡◌, ℕ, zero, suc, ◌+◌, ◌*◌, ◌/◌, ◌%◌, ◌^◌, ◌<◌, Bool, true, false, cond, leb, List, [], ◌∷◌, get_or, ℤ, pos, negsuc, nat_abs, Some, None, Option, sym, refl, ap, ◌∙◌, subst, arith, ◌==◌, w32, SFits, to_z, of_z}
 use mir.Facts.{sfits_lit}
 use Rattle.std.proofs.lemmas.Nat.{mod-pow-add}
-use Rattle.std.proofs.lemmas.List.{same_lists, places}
-use Rattle.std.proofs.lemmas.Int.{to_z-of_z, of_z-to_z, ints}
+use Rattle.std.proofs.lemmas.Int.{to_z-of_z, ints}
 use Rattle.std.proofs.lemmas.Bool.{and_from, and_parts, leb-true, ltb-true}
 use Rattle.std.specs.Bool.{Decides}
 use Rattle.std.specs.Cmp.{signed_Decides, unsigned_Decides}
@@ -11,21 +10,12 @@ use Rattle.bytecode.specs.Equality.{same_word, same_instr}
 use Rattle.bytecode.specs.declared.instr.Instr.{Instr}
 use Rattle.bytecode.specs.declared.instr.Instr.TheVariants.{Nop, Halt, Lit, LitFlag, Pop, Dup, Swap, Load, Store, Add, Sub, Mul, Div, Eq, Lt, Not, Jmp, Jf, DropJmp, In, Out}
 use Rattle.bytecode.specs.declared.word.Word.{Word}
-use Rattle.bytecode.specs.Instructions.{Operands, bare, number, flag, local, jump, row, word, arg_of, in32, in_range, Spells}
-use Rattle.bytecode.specs.Layout.{be32, encoded}
+use Rattle.bytecode.specs.Instructions.{Operands, bare, number, flag, local, jump, word, arg_of, in32, in_range}
+use Rattle.bytecode.specs.Layout.{encoded}
 
 -- four bytes as one number
 abbrev pub whole : ℕ → ℕ → ℕ → ℕ → ℕ
 whole a b c d = a * 16777216 + b * 65536 + c * 256 + d
-
-quads : (n a b c d : ℕ) → n ≡ whole a b c d → a < 256 → b < 256 → c < 256 → d < 256 → (n / 16777216 % 256 ≡ a) × (n / 65536 % 256 ≡ b) × (n / 256 % 256 ≡ c) × (n % 256 ≡ d)
-quads n a b c d e ha hb hc hd = (omega arith, omega arith, omega arith, omega arith)
-
-be32-to_z : (a b c d : ℕ) → a < 256 → b < 256 → c < 256 → d < 256 → be32 (to_z w32 (whole a b c d)) ≡ a ∷ b ∷ c ∷ d ∷ []
-be32-to_z a b c d ha hb hc hd =
-    let e : of_z w32 (to_z w32 (whole a b c d)) ≡ whole a b c d = of_z-to_z w32 (whole a b c d) (omega arith) in
-    let q = quads _ a b c d e ha hb hc hd in
-    cc
 
 bits_below : (z : ℤ) → SFits w32 z → of_z w32 z < 2 ^ 32
 bits_below z f = omega (arith, ints)
@@ -43,16 +33,6 @@ to_z-be32 z f =
     let four = mod-pow-add n 8 24 in
     let e : whole (n / 16777216 % 256) (n / 65536 % 256) (n / 256 % 256) (n % 256) ≡ n = omega arith in
     ap (to_z w32) e ∙ to_z-of_z w32 z f
-
-six : (bytes : List ℕ) → length bytes ≡ 6 → bytes ≡ get_or bytes 0 0 ∷ get_or bytes 1 0 ∷ get_or bytes 2 0 ∷ get_or bytes 3 0 ∷ get_or bytes 4 0 ∷ get_or bytes 5 0 ∷ []
-six bytes e = same_lists _ _ (omega arith) (λ k d h. grind (arith, places))
-
--- the word of six bytes has these bytes
-pub encoded_from : (bytes : List ℕ) → length bytes ≡ 6 → ((k : ℕ) → get_or bytes k 0 < 256) → encoded (record { op = get_or bytes 0 0; drops = get_or bytes 1 0; arg = argument bytes }) ≡ bytes
-encoded_from bytes long small =
-    let e = be32-to_z (get_or bytes 2 0) (get_or bytes 3 0) (get_or bytes 4 0) (get_or bytes 5 0) (small 2) (small 3) (small 4) (small 5) in
-    let f = six bytes long in
-    cc
 
 SFits-in32 : (z : ℤ) → in32 z ≡ true → SFits w32 z
 SFits-in32 (pos n) h = record { sfits = ltb-true n 2147483648 h }
@@ -131,11 +111,3 @@ same_word-Decides v w = (
 
 pub same_instr-Decides : (i j : Instr) → Decides (same_instr i j) (i ≡ j)
 same_instr-Decides i j = (λ h. word_one i j ((same_word-Decides (word i) (word j)).0 h), λ e. (same_word-Decides (word i) (word j)).1 (ap word e))
-
--- the instruction that a word spells has the word's bytes, and no other has
-module _ (bytes : List ℕ) (w : Word) (fits : SFits w32 w.arg) (is : encoded w ≡ bytes) (i : Instr) where
-  pub same_from_spells : Spells w i → encoded (word i) ≡ bytes
-  same_from_spells s = ap encoded s.same ∙ is
-
-  pub spells_from_same : encoded (word i) ≡ bytes → in_range (row i).operands ≡ true → Spells w i
-  spells_from_same e r = record { same = encoded_one (word i) w (arg_fits (row i).operands r) fits (e ∙ sym is); operands_in_range = r }

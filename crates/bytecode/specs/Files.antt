@@ -5,6 +5,7 @@ use Rattle.bytecode.specs.declared.instr.Instr.TheVariants.{Nop}
 use Rattle.bytecode.specs.declared.unit.Unit.{Unit as TheUnit}
 use Rattle.bytecode.specs.declared.fault.FileFault.{FileFault}
 use Rattle.bytecode.specs.declared.fault.FileFault.TheVariants.{Length, Check, Head, Count}
+use Rattle.bytecode.specs.declared.fault.UnitFault.{UnitFault}
 use Rattle.bytecode.specs.declared.fault.ReadFault.{ReadFault}
 use Rattle.bytecode.specs.declared.fault.ReadFault.TheVariants.{File, Unit as InUnit}
 use Rattle.bytecode.specs.Instructions.{word, sound}
@@ -58,6 +59,11 @@ FileGets f Count = (n : ℕ) × Sized f n × Summed f × Headed f × (Counted f 
 pub record Reads (bytes : List ℕ) (L p n : ℕ) (i : Instr) : Type 0 where
   pub same : encoded (word i) ≡ bytes
   pub allowed : sound L p n i ≡ true
+
+-- what six bytes are at place p of n in a unit of L locals: the instruction that reads there, or a fault that names the place
+abbrev pub Decoded : List ℕ → ℕ → ℕ → ℕ → Result Instr UnitFault → Type 0
+Decoded bytes L p n (Ok i) = Reads bytes L p n i
+Decoded bytes L p n (Err fault) = (fault.place ≡ p) × ((i : Instr) → Reads bytes L p n i → ⊥)
 
 -- some instruction reads at place k of a file of n
 abbrev pub Good : List ℕ → ℕ → ℕ → Type 0

@@ -44,6 +44,10 @@ row (DropJmp d) = record { code = 18; operands = jump d; falls = false }
 row In = record { code = 19; operands = bare; falls = true }
 row Out = record { code = 20; operands = bare; falls = true }
 
+-- the instruction has this number and no operands
+abbrev pub IsBare : ℕ → Instr → Type 0
+IsBare op i = ((row i).operands ≡ bare) × ((row i).code ≡ op)
+
 -- the drop count in the file, 0 where the operation has none
 abbrev pub drops_of : Operands → ℕ
 drops_of bare = 0
@@ -106,3 +110,7 @@ sound L p n i = in_range (row i).operands && standing L p n i
 pub record Spells (w : Word) (i : Instr) : Type 0 where
   pub same : word i ≡ w
   pub operands_in_range : in_range (row i).operands ≡ true
+
+-- the machine has no instruction whose word this is
+abbrev pub SpellsNone : Word → Type 0
+SpellsNone w = (i : Instr) → Spells w i → ⊥

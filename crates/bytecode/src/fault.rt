@@ -3,6 +3,8 @@ ghost use Rattle.std.specs.Prelude.{◌≡◌};
 ghost use Rattle.bytecode.specs.Faults.{short_number, read_number, read_place};
 ghost use Rattle.bytecode.specs.declared.fault.ReadFault.TheVariants.{File, Unit as InUnit};
 
+use std::fmt;
+
 /// The file as a whole is wrong.
 #[derive(Clone, Copy, PartialEq, Eq, Debug)]
 pub enum FileFault {
@@ -33,6 +35,7 @@ pub enum ReadFault {
 #[derive(Clone, Copy, PartialEq, Eq, Debug)]
 pub struct TooShort;
 
+// By hand: a derived conversion has no clause, and a reader's contract says which fault it gives.
 impl From<FileFault> for ReadFault {
     ghost from_gives = { λ x y. y ≡ File x };
 
@@ -49,6 +52,7 @@ impl From<UnitFault> for ReadFault {
     }
 }
 
+// Methods and no conversions to numbers: `u8::from` of a fault would not say which of its numbers.
 impl ReadFault {
     /// The refusal number.
     pub fn number(&self) -> u8
@@ -71,6 +75,22 @@ impl ReadFault {
             ReadFault::File(_) => 0,
             ReadFault::Unit(fault) => fault.place,
         }
+    }
+}
+
+/// As the program tells it: the refusal number, the layer that refuses, and the place.
+impl fmt::Display for ReadFault {
+    fn fmt<W: fmt::Write>(&self, f: &mut fmt::Formatter<W>) -> fmt::Result {
+        let layer = match self {
+            ReadFault::File(_) => "file",
+            ReadFault::Unit(_) => "unit",
+        };
+        write!(
+            f,
+            "refused {} {layer} place {}",
+            self.number(),
+            self.place()
+        )
     }
 }
 

@@ -7,6 +7,7 @@ pub mod jump;
 mod parts;
 pub mod read;
 pub mod rules;
+pub mod site;
 pub mod sum;
 #[cfg(test)]
 mod tests;

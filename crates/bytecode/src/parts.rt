@@ -1,8 +1,8 @@
 //! A cursor over the instructions of a lent file.
-ghost use Rattle.std.specs.Prelude.{◌≡◌, ◌+◌, ◌^◌, ◌<◌, length, MatchOption};
-ghost use Rattle.bytecode.specs.Cursor.{Spent, Handed};
+ghost use Rattle.std.specs.Prelude.{◌≡◌, ◌+◌, ◌/◌, ◌^◌, ◌<◌, length};
+ghost use Rattle.std.specs.Iterator.{at_most};
 
-/// Hands out the bytes that are left six at a time, each part with its place.
+/// Hands out the bytes that are left six at a time, each part with its place; fewer are not handed out.
 #[derive(Drop)]
 pub struct Parts<'a> {
     rest: &'a [u8],
@@ -21,11 +21,18 @@ impl<'a> Parts<'a> {
             place: 0,
         }
     }
+}
 
-    /// The next place with the six bytes of its instruction; none, and no step, where fewer are left.
-    pub fn next(&mut self) -> Option<(usize, &'a [u8; 6])>
-        ensures { MatchOption result (Spent self.old.rest.now self.new.rest.now self.old.place self.new.place) (λ x. Handed self.old.rest.now self.new.rest.now x.1.now self.old.place self.new.place x.0) }
-    {
+impl<'a> Iterator for Parts<'a> {
+    type Item = (usize, &'a [u8; 6]);
+
+    ghost use Rattle.bytecode.specs.Cursor.{HandsOut};
+
+    ghost next_gives = { HandsOut };
+
+    ghost remaining = { λ parts. at_most (length parts.rest.now / 6) };
+
+    fn next(&mut self) -> Option<(usize, &'a [u8; 6])> {
         let (part, rest) = self.rest.split_first_chunk::<6>()?;
         let place = self.place;
         self.rest = rest;

@@ -1,17 +1,18 @@
 //! A unit from a file's bytes.
 ghost use Rattle.std.specs.Prelude.{◌≡◌, ◌<◌, MatchResult};
-ghost use Rattle.bytecode.specs.Files.{Sized, Framed, FileGets, Reads, LowestBad, CodeRead, Outcome, Only, WritesBack};
+ghost use Rattle.bytecode.specs.Files.{Sized, Framed, FileGets, Decoded, LowestBad, CodeRead, Outcome, Only, WritesBack};
 
 use crate::fault::{FileFault, ReadFault, UnitFault};
 use crate::instr::Instr;
 use crate::parts::Parts;
+use crate::site::Site;
 use crate::sum::check_sum;
 use crate::unit::Unit;
 use crate::word::Word;
 
 /// The number of instructions, where the file as a whole is right.
 fn frame(file: &[u8]) -> Result<usize, FileFault>
-    ensures { MatchResult result (λ n. Framed file.now n) (λ e. FileGets file.now e) }
+    ensures { MatchResult result (Framed file.now) (FileGets file.now) }
 {
     let len = file.len();
     if len < 12 || len > 774 || len % 6 != 0 {
@@ -31,26 +32,25 @@ fn frame(file: &[u8]) -> Result<usize, FileFault>
     Ok(count)
 }
 
-/// The instruction that the six bytes of `part` are at `place` of a unit of `len` instructions and `locals` locals.
-fn decode(part: &[u8; 6], locals: u8, place: usize, len: usize) -> Result<Instr, UnitFault>
-    ensures { MatchResult result (λ i. Reads part.now locals place len i) (λ e. (e.place ≡ place) × ((i : Instr) → Reads part.now locals place len i → ⊥)) }
+/// The instruction that the six bytes of `part` are, where it may stand.
+fn decode(part: [u8; 6], site: Site) -> Result<Instr, UnitFault>
+    ensures { Decoded part site.locals site.place site.len result }
 {
-    match Word::from_bytes(part).instruction() {
-        Some(instr) if instr.may_stand(locals, place, len) => Ok(instr),
-        _ => Err(UnitFault { place }),
+    match Instr::try_from(Word::from(part)) {
+        Ok(instr) if instr.may_stand(site) => Ok(instr),
+        _ => Err(UnitFault { place: site.place }),
     }
 }
 
 /// The code of a file of `len` instructions.
 fn read_code(file: &[u8], len: usize) -> Result<[Instr; 128], UnitFault>
     requires { Sized file.now len }
-    ensures { MatchResult result (λ code. CodeRead file.now len code) (λ e. LowestBad file.now len e.place) }
+    ensures { MatchResult result (CodeRead file.now len) (λ fault. LowestBad file.now len fault.place) }
 {
     let locals = file[1];
     let mut code = [Instr::Nop; 128];
-    let mut parts = Parts::new(&file[4..]);
-    while let Some((place, part)) = parts.next() {
-        code[place] = decode(part, locals, place, len)?;
+    for (place, part) in Parts::new(&file[4..]) {
+        code[place] = decode(*part, Site { locals, place, len })?;
     }
     Ok(code)
 }

@@ -1,14 +1,15 @@
 //! Which instructions the machine has, and where each may stand.
-ghost use Rattle.std.specs.Prelude.{◌≡◌, ℕ, ◌<◌, pos, MatchOption, ◌≢◌};
-ghost use Rattle.bytecode.specs.Instructions.{row, bare, standing, Spells};
+ghost use Rattle.std.specs.Prelude.{◌≡◌, ℕ, ◌<◌, pos, MatchOption, MatchResult, ◌≢◌};
+ghost use Rattle.bytecode.specs.Instructions.{row, IsBare, standing, Spells, SpellsNone};
 
 use crate::instr::Instr;
 use crate::jump::target;
+use crate::site::Site;
 use crate::word::Word;
 
 /// The instruction of this number among those without operands.
 fn without_operands(op: u8) -> Option<Instr>
-    ensures { MatchOption result ((i : Instr) → (row i).operands ≡ bare → (row i).code ≢ op) (λ i. ((row i).operands ≡ bare) × ((row i).code ≡ op)) }
+    ensures { MatchOption result ((i : Instr) → IsBare op i → ⊥) (IsBare op) }
 {
     match op {
         0 => Some(Instr::Nop),
@@ -33,32 +34,34 @@ fn without_operands(op: u8) -> Option<Instr>
 fn local(arg: i32) -> Option<u8>
     ensures { MatchOption result ((x : ℕ) → x < 16 → pos x ≢ arg) (λ x. (x < 16) × (pos x ≡ arg)) }
 {
-    match u8::try_from(arg) {
-        Ok(local) if local < 16 => Some(local),
-        _ => None,
-    }
+    u8::try_from(arg).ok().filter(|local| *local < 16)
 }
 
-impl Word {
-    /// The instruction that the word spells; none where the machine has no such instruction.
-    pub fn instruction(self) -> Option<Instr>
-        ensures { MatchOption result ((i : Instr) → Spells self i → ⊥) (λ i. Spells self i) }
-    {
-        let drops = self.drops;
-        match (self.op, drops, self.arg) {
-            (2, 0..=2, value) => Some(Instr::Lit { drops, value }),
-            (3, 0..=2, 0) => Some(Instr::LitFlag {
+/// The machine has no instruction with this number, drop count and argument.
+#[derive(Clone, Copy, PartialEq, Eq, Debug)]
+pub struct NoSuchInstr;
+
+impl TryFrom<Word> for Instr {
+    type Error = NoSuchInstr;
+
+    ghost try_from_gives = { λ word result. MatchResult result (Spells word) (λ _. SpellsNone word) };
+
+    fn try_from(word: Word) -> Result<Instr, NoSuchInstr> {
+        let Word { op, drops, arg } = word;
+        match (op, drops, arg) {
+            (2, 0..=2, value) => Ok(Instr::Lit { drops, value }),
+            (3, 0..=2, 0) => Ok(Instr::LitFlag {
                 drops,
                 value: false,
             }),
-            (3, 0..=2, 1) => Some(Instr::LitFlag { drops, value: true }),
-            (7, 0, arg) => Some(Instr::Load(local(arg)?)),
-            (8, 0, arg) => Some(Instr::Store(local(arg)?)),
-            (16, 0, by) => Some(Instr::Jmp(by)),
-            (17, 0, by) => Some(Instr::Jf(by)),
-            (18, 0, by) => Some(Instr::DropJmp(by)),
-            (op, 0, 0) => without_operands(op),
-            _ => None,
+            (3, 0..=2, 1) => Ok(Instr::LitFlag { drops, value: true }),
+            (7, 0, arg) => Ok(Instr::Load(local(arg).ok_or(NoSuchInstr)?)),
+            (8, 0, arg) => Ok(Instr::Store(local(arg).ok_or(NoSuchInstr)?)),
+            (16, 0, by) => Ok(Instr::Jmp(by)),
+            (17, 0, by) => Ok(Instr::Jf(by)),
+            (18, 0, by) => Ok(Instr::DropJmp(by)),
+            (op, 0, 0) => without_operands(op).ok_or(NoSuchInstr),
+            _ => Err(NoSuchInstr),
         }
     }
 }
@@ -68,23 +71,20 @@ impl Instr {
     pub fn falls_through(&self) -> bool
         ensures { result ≡ (row self.now).falls }
     {
-        match self {
-            Instr::Halt | Instr::Jmp(_) | Instr::DropJmp(_) => false,
-            _ => true,
-        }
+        !matches!(self, Instr::Halt | Instr::Jmp(_) | Instr::DropJmp(_))
     }
 
-    /// Whether the instruction may stand at `place` of a unit of `len` instructions and `locals` locals.
-    pub fn may_stand(&self, locals: u8, place: usize, len: usize) -> bool
-        ensures { result ≡ standing locals place len self.now }
+    /// Whether the instruction may stand there.
+    pub fn may_stand(&self, site: Site) -> bool
+        ensures { result ≡ standing site.locals site.place site.len self.now }
     {
         let fitting = match self {
-            Instr::Load(local) | Instr::Store(local) => *local < locals,
+            Instr::Load(local) | Instr::Store(local) => *local < site.locals,
             Instr::Jmp(by) | Instr::Jf(by) | Instr::DropJmp(by) => target(
-                place, *by, len,
+                site.place, *by, site.len,
             ).is_some(),
             _ => true,
         };
-        fitting && (!self.falls_through() || place.saturating_add(1) < len)
+        fitting && (!self.falls_through() || site.place.saturating_add(1) < site.len)
     }
 }

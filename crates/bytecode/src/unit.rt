@@ -6,6 +6,7 @@ ghost use Rattle.bytecode.specs.Instructions.{sound};
 use crate::instr::Instr;
 
 /// The instructions of one routine over `locals` locals. The code past `len` is NOP, so that equal units are equal in every field.
+// An array beside its length and no vector: the library allocates nothing, and units are copied whole.
 #[derive(Clone, Copy)]
 pub struct Unit {
     pub locals: u8,

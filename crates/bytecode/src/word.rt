@@ -14,12 +14,11 @@ pub struct Word {
     pub arg: i32,
 }
 
-impl Word {
-    /// The word of an instruction.
-    pub fn of(instr: &Instr) -> Word
-        ensures { result ≡ word instr.now }
-    {
-        let (op, drops, arg) = match *instr {
+impl From<Instr> for Word {
+    ghost from_gives = { λ instr result. result ≡ word instr };
+
+    fn from(instr: Instr) -> Word {
+        let (op, drops, arg) = match instr {
             Instr::Nop => (0, 0, 0),
             Instr::Halt => (1, 0, 0),
             Instr::Lit { drops, value } => (2, drops, value),
@@ -44,29 +43,33 @@ impl Word {
         };
         Word { op, drops, arg }
     }
+}
 
-    /// The word that six bytes are, the argument's high byte first.
-    pub fn from_bytes(bytes: &[u8; 6]) -> Word
-        ensures { encoded result ≡ bytes.now }
-    {
-        let [op, drops, a, b, c, d] = *bytes;
+/// The argument's high byte comes first.
+impl From<[u8; 6]> for Word {
+    ghost from_gives = { λ bytes result. encoded result ≡ bytes };
+
+    fn from(bytes: [u8; 6]) -> Word {
+        let [op, drops, a, b, c, d] = bytes;
         Word {
             op,
             drops,
             arg: i32::from_be_bytes([a, b, c, d]),
         }
     }
+}
 
-    /// The six bytes of a word.
-    pub fn to_bytes(self) -> [u8; 6]
-        ensures { result ≡ encoded self }
-    {
-        let [a, b, c, d] = self.arg.to_be_bytes();
-        [self.op, self.drops, a, b, c, d]
+impl From<Word> for [u8; 6] {
+    ghost from_gives = { λ word result. result ≡ encoded word };
+
+    fn from(word: Word) -> [u8; 6] {
+        let [a, b, c, d] = word.arg.to_be_bytes();
+        [word.op, word.drops, a, b, c, d]
     }
 }
 
 /// Equal words are those of equal instructions.
+// By hand: a derived `==` has no clause, and this one promises that it decides equality.
 impl PartialEq for Instr {
     ghost eq = { same_instr };
 
@@ -76,6 +79,6 @@ impl PartialEq for Instr {
         ensures eq { result ≡ same_instr self.now other.now }
         ensures decides { IsTrue result ↔ (self.now ≡ other.now) }
     {
-        Word::of(self) == Word::of(other)
+        Word::from(*self) == Word::from(*other)
     }
 }

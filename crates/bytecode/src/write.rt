@@ -23,8 +23,9 @@ fn put_words(words: &[Word], out: &mut [u8])
     requires { 4 + 6 * length words.now ≤ length out.old }
     ensures { out.new ≡ (take 4 out.old ++ flat_map encoded words.now) ++ drop (4 + 6 * length words.now) out.old }
 {
+    // By place: the library does not say what a slice ends as once a loan of its chunks is over.
     for (place, word) in words.iter().enumerate() {
-        put(out, 4 + 6 * place, &word.to_bytes());
+        put(out, 4 + 6 * place, &<[u8; 6]>::from(*word));
     }
 }
 
@@ -51,26 +52,11 @@ pub fn write_words(locals: u8, words: &[Word], out: &mut [u8]) -> Result<usize, 
     Ok(end + 2)
 }
 
-/// The word of each entry of a unit's code.
-fn words_of(unit: &Unit) -> [Word; 128]
-    ensures { result ≡ map word unit.now.code }
-{
-    let mut words = [Word {
-        op: 0,
-        drops: 0,
-        arg: 0,
-    }; 128];
-    for place in 0..128 {
-        words[place] = Word::of(&unit.code[place]);
-    }
-    words
-}
-
 /// Writes the file of `unit` to the front of `out`, and answers its length.
 pub fn write(unit: &Unit, out: &mut [u8]) -> Result<usize, TooShort>
     ensures answer { WriteOutcome (bytes_of unit.now) out.old out.new result }
     ensures back { IfOk result (λ n. ReadsBack unit.now out.new n) }
 {
-    let words = words_of(unit);
+    let words = unit.code.map(Word::from);
     write_words(unit.locals, &words[0..unit.len], out)
 }
