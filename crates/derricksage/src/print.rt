@@ -47,7 +47,7 @@ impl<'a> fmt::Display for UnitListing<'a> {
 
 impl fmt::Display for Line {
     fn fmt<W: fmt::Write>(&self, f: &mut fmt::Formatter<W>) -> fmt::Result {
-        let Word { op, drops, arg } = Word::of(&self.instr);
+        let Word { op, drops, arg } = Word::from(self.instr);
         let Mnemonic(name, operands) = MNEMONICS[usize::from(op)];
         write!(f, "{}: {name}", self.place)?;
         match operands {
