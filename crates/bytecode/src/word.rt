@@ -9,6 +9,7 @@ use crate::instr::Instr;
 /// What the six bytes of an instruction say, whether the machine has such an instruction or not.
 #[derive(Clone, Copy, PartialEq, Eq, Debug)]
 pub struct Word {
+    // A number and no enum: a file may have any.
     pub op: u8,
     pub drops: u8,
     pub arg: i32,

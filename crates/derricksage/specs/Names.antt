@@ -5,7 +5,7 @@ use Rattle.derricksage.specs.declared.mnemonic.Mnemonic.{Mnemonic}
 
 -- row k has this name, without regard to case
 abbrev pub NamedAt : List Mnemonic → ℕ → List ℕ → Type 0
-NamedAt table k name = (m : Mnemonic) × (slice_index_or table k m ≡ m) × (map to_ascii_lowercase m.0.now ≡ map to_ascii_lowercase name)
+NamedAt table k name = (m : Mnemonic) × (slice_index_or table k m ≡ m) × (map to_ascii_lowercase m.name.now ≡ map to_ascii_lowercase name)
 
 -- no row before row n has this name
 abbrev pub NoneBefore : List Mnemonic → ℕ → List ℕ → Type 0

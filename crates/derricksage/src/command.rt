@@ -1,5 +1,6 @@
 //! The words of the command line.
 use crate::error::Error;
+use crate::number::InRange;
 use std::alloc::Global;
 use std::fmt;
 
@@ -26,31 +27,36 @@ pub enum Command<'a> {
 }
 
 /// How a command is written, and what it does.
-#[derive(Clone, Copy)]
+#[derive(Clone, Copy, Debug)]
 pub struct Usage {
+    pub name: &'static str,
+    /// The name with the operands.
     pub words: &'static str,
     pub purpose: &'static str,
 }
 
-static ASM_USAGE: Usage = Usage {
-    words: "asm LISTING FILE",
-    purpose: "a listing to a unit file",
-};
-
-static SHOW_USAGE: Usage = Usage {
-    words: "show FILE",
-    purpose: "the listing of a unit file",
-};
-
-static RUN_USAGE: Usage = Usage {
-    words: "run FILE BUDGET ROOM [INPUT ..]",
-    purpose: "one run of a unit file",
-};
-
-static HELP_USAGE: Usage = Usage {
-    words: "help",
-    purpose: "this help",
-};
+static USAGES: [Usage; 4] = [
+    Usage {
+        name: "asm",
+        words: "asm LISTING FILE",
+        purpose: "a listing to a unit file",
+    },
+    Usage {
+        name: "show",
+        words: "show FILE",
+        purpose: "the listing of a unit file",
+    },
+    Usage {
+        name: "run",
+        words: "run FILE BUDGET ROOM [INPUT ..]",
+        purpose: "one run of a unit file",
+    },
+    Usage {
+        name: "help",
+        words: "help",
+        purpose: "this help",
+    },
+];
 
 /// One line for each command.
 #[derive(Clone, Copy)]
@@ -58,7 +64,7 @@ pub struct HelpText;
 
 impl fmt::Display for HelpText {
     fn fmt<W: fmt::Write>(&self, f: &mut fmt::Formatter<W>) -> fmt::Result {
-        for usage in [ASM_USAGE, SHOW_USAGE, RUN_USAGE, HELP_USAGE] {
+        for usage in &USAGES {
             writeln!(f, "derricksage {:<33} {}", usage.words, usage.purpose)?;
         }
         Ok(())
@@ -66,87 +72,45 @@ impl fmt::Display for HelpText {
 }
 
 /// The command that the words after the program's name are.
-pub fn parse<'a>(heap: Global, words: &'a [String]) -> Result<Command<'a>, Error<'a>> {
+pub fn parse(heap: Global, words: &[String]) -> Result<Command<'_>, Error<'_>> {
     let [name, operands @ ..] = words else {
         return Ok(Command::Help);
     };
-    match name.as_str() {
-        "help" => help(operands),
-        "asm" => asm(operands),
-        "show" => show(operands),
-        "run" => run(heap, operands),
-        other => Err(Error::UnknownCommand(other)),
-    }
-}
-
-/// The command `help` with these operands.
-fn help<'a>(operands: &'a [String]) -> Result<Command<'a>, Error<'a>> {
-    match operands {
-        [] => Ok(Command::Help),
-        _ => Err(Error::WrongWords(&HELP_USAGE)),
-    }
-}
-
-/// The command `asm` with these operands.
-fn asm<'a>(operands: &'a [String]) -> Result<Command<'a>, Error<'a>> {
-    match operands {
-        [listing, file] => Ok(Command::Asm {
+    match (name.as_str(), operands) {
+        ("help", []) => Ok(Command::Help),
+        ("asm", [listing, file]) => Ok(Command::Asm {
             listing: listing.as_str(),
             file: file.as_str(),
         }),
-        _ => Err(Error::WrongWords(&ASM_USAGE)),
-    }
-}
-
-/// The command `show` with these operands.
-fn show<'a>(operands: &'a [String]) -> Result<Command<'a>, Error<'a>> {
-    match operands {
-        [file] => Ok(Command::Show {
+        ("show", [file]) => Ok(Command::Show {
             file: file.as_str(),
         }),
-        _ => Err(Error::WrongWords(&SHOW_USAGE)),
+        ("run", [file, budget, room, inputs @ ..]) => Ok(Command::Run {
+            file: file.as_str(),
+            budget: number("BUDGET", budget)?,
+            room: number("ROOM", room)?,
+            inputs: inputs
+                .iter()
+                .map(|input| number("INPUT", input))
+                .try_collect(heap)?,
+        }),
+        (name, _) => Err(wrong_words(name)),
     }
 }
 
-/// The command `run` with these operands.
-fn run<'a>(heap: Global, operands: &'a [String]) -> Result<Command<'a>, Error<'a>> {
-    let [file, budget, room, rest @ ..] = operands else {
-        return Err(Error::WrongWords(&RUN_USAGE));
-    };
-    let budget = match budget.parse::<u32>() {
-        Ok(budget) => budget,
-        Err(_) => return Err(not_number("BUDGET", budget, "an unsigned 32-bit number")),
-    };
-    let room = match room.parse::<usize>() {
-        Ok(room) => room,
-        Err(_) => return Err(not_number("ROOM", room, "an unsigned number")),
-    };
-    let inputs = inputs(heap, rest)?;
-    Ok(Command::Run {
-        file: file.as_str(),
-        budget,
-        room,
-        inputs,
-    })
-}
-
-/// The inputs of a run.
-fn inputs<'a>(heap: Global, words: &'a [String]) -> Result<Vec<i32>, Error<'a>> {
-    let mut inputs = Vec::new(heap);
-    for word in words {
-        match word.parse::<i32>() {
-            Ok(input) => inputs.push(input)?,
-            Err(_) => return Err(not_number("INPUT", word, "a signed 32-bit number")),
-        }
+/// The error of a command whose operands are not those of its usage.
+fn wrong_words(name: &str) -> Error<'_> {
+    match USAGES.iter().find(|usage| usage.name == name) {
+        Some(usage) => Error::WrongWords(usage),
+        None => Error::UnknownCommand(name),
     }
-    Ok(inputs)
 }
 
-/// The error of a word that is not a number of its range.
-fn not_number<'a>(name: &'static str, word: &'a String, range: &'static str) -> Error<'a> {
-    Error::NotNumber {
+/// The number that the operand `name` is.
+fn number<'a, T: InRange>(name: &'static str, word: &'a str) -> Result<T, Error<'a>> {
+    word.parse().map_err(|_| Error::NotNumber {
         name,
-        word: word.as_str(),
-        range,
-    }
+        word,
+        range: T::RANGE,
+    })
 }

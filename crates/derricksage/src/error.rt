@@ -2,138 +2,70 @@
 use crate::command::Usage;
 use crate::mnemonic::Mnemonic;
 use bytecode::fault::ReadFault;
-use std::alloc::{AllocError, AllocFailed};
-use std::{fmt, io};
+use std::alloc::AllocError;
+use std::io;
 
 /// Why a line of a listing says no instruction.
-#[derive(Drop)]
+#[derive(Debug, Drop, thiserror::Error)]
 pub enum LineFault {
+    #[error("the first line must be \"locals L\"")]
     NoLocals,
+    #[error("there is no instruction after the place")]
     NoInstruction,
     /// The place that the line should say.
+    #[error("the place of this instruction is {0}")]
     WrongPlace(usize),
+    #[error("no instruction is named {0:?}")]
     UnknownName(String),
+    #[error("{} takes {}", .0.name, .0.operands)]
     WrongOperands(Mnemonic),
-    NotByte(String),
-    NotNumber(String),
-    Memory,
+    /// A word that is no number of its range.
+    #[error("{word:?} is not {range}")]
+    NotNumber { word: String, range: &'static str },
+    #[error("not enough memory")]
+    Memory(#[from(alloc)] AllocError),
+}
+
+/// Why a text is no listing, and the line, counted from 1, that shows it.
+#[derive(Debug, Drop, thiserror::Error)]
+#[error("{line}: {fault}")]
+pub struct TextFault {
+    pub line: usize,
+    pub fault: LineFault,
 }
 
 /// Why a command fails.
-#[derive(Drop)]
+#[derive(Debug, Drop, thiserror::Error)]
 pub enum Error<'a> {
+    #[error("derricksage: no command is named {0:?}; try \"derricksage help\"")]
     UnknownCommand(&'a str),
+    #[error("derricksage: the words must be \"derricksage {}\"", .0.words)]
     WrongWords(&'static Usage),
     /// A word that is no number of its range.
+    #[error("derricksage: {name} {word:?} is not {range}")]
     NotNumber {
         name: &'static str,
         word: &'a str,
         range: &'static str,
     },
+    #[error("{name}: {error}")]
     File {
         name: &'a str,
         error: io::Error,
     },
+    #[error("{name}:{fault}")]
     Listing {
         name: &'a str,
-        line: usize,
-        fault: LineFault,
+        fault: TextFault,
     },
+    #[error("{name}: {fault}")]
     Refused {
         name: &'a str,
         fault: ReadFault,
     },
     /// The arguments or the standard output fail.
-    System(io::Error),
-    Memory,
-}
-
-impl From<AllocError> for LineFault {
-    fn from(_error: AllocError) -> LineFault {
-        LineFault::Memory
-    }
-}
-
-impl<T: Drop> From<AllocFailed<T>> for LineFault {
-    fn from(_error: AllocFailed<T>) -> LineFault {
-        LineFault::Memory
-    }
-}
-
-impl<'a> From<AllocError> for Error<'a> {
-    fn from(_error: AllocError) -> Error<'a> {
-        Error::Memory
-    }
-}
-
-impl<'a> From<io::Error> for Error<'a> {
-    fn from(error: io::Error) -> Error<'a> {
-        Error::System(error)
-    }
-}
-
-impl<'a, T: Drop> From<AllocFailed<T>> for Error<'a> {
-    fn from(_error: AllocFailed<T>) -> Error<'a> {
-        Error::Memory
-    }
-}
-
-impl fmt::Display for LineFault {
-    fn fmt<W: fmt::Write>(&self, f: &mut fmt::Formatter<W>) -> fmt::Result {
-        match self {
-            LineFault::NoLocals => write!(f, "the first line must be \"locals L\""),
-            LineFault::NoInstruction => write!(f, "there is no instruction after the place"),
-            LineFault::WrongPlace(place) => write!(f, "the place of this instruction is {place}"),
-            LineFault::UnknownName(name) => write!(f, "no instruction is named {name:?}"),
-            LineFault::WrongOperands(Mnemonic(name, operands)) => write!(
-                f,
-                "{name} takes {}",
-                operands.described()
-            ),
-            LineFault::NotByte(word) => write!(f, "{word:?} is not a number from 0 to 255"),
-            LineFault::NotNumber(word) => write!(f, "{word:?} is not a signed 32-bit number"),
-            LineFault::Memory => write!(f, "not enough memory"),
-        }
-    }
-}
-
-impl<'a> fmt::Display for Error<'a> {
-    fn fmt<W: fmt::Write>(&self, f: &mut fmt::Formatter<W>) -> fmt::Result {
-        match self {
-            Error::UnknownCommand(word) => write!(
-                f,
-                "derricksage: no command is named {word:?}; try \"derricksage help\""
-            ),
-            Error::WrongWords(usage) => write!(
-                f,
-                "derricksage: the words must be \"derricksage {}\"",
-                usage.words
-            ),
-            Error::NotNumber { name, word, range } => write!(
-                f,
-                "derricksage: {name} {word:?} is not {range}"
-            ),
-            Error::File { name, error } => write!(f, "{name}: {error}"),
-            Error::Listing { name, line, fault } => write!(f, "{name}:{line}: {fault}"),
-            Error::Refused { name, fault } => {
-                write!(
-                    f,
-                    "{name}: refused {} {} place {}",
-                    fault.number(),
-                    layer(fault),
-                    fault.place()
-                )
-            }
-            Error::System(error) => write!(f, "derricksage: {error}"),
-            Error::Memory => write!(f, "derricksage: not enough memory"),
-        }
-    }
-}
-
-/// The layer that refuses.
-fn layer(fault: &ReadFault) -> &'static str {
-    match fault {
-        ReadFault::File(_) => "file",
-        ReadFault::Unit(_) => "unit",
-    }
+    #[error("derricksage: {0}")]
+    System(#[from] io::Error),
+    #[error("derricksage: not enough memory")]
+    Memory(#[from(alloc)] AllocError),
 }

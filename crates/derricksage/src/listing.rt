@@ -1,8 +1,17 @@
 //! A listing's text to the locals and words that it says.
-use crate::error::LineFault;
+ghost use Rattle.std.specs.Prelude.{◌≡◌, ◌==◌, ◌+◌, OnOk, OnErr, vec_len};
+ghost use Rattle.std.specs.List.{before_first};
+
+use crate::error::{LineFault, TextFault};
 use crate::mnemonic::{MNEMONICS, Operands, find};
+use crate::number::InRange;
 use bytecode::word::Word;
 use std::alloc::{AllocError, Global};
+
+// `heap` goes from call to call and stands in no struct: so std shows which functions allocate.
+
+/// What begins a comment.
+const COMMENT_MARK: char = ';';
 
 /// What a listing says, a unit or not.
 #[derive(Drop)]
@@ -11,67 +20,30 @@ pub struct Listing {
     pub words: Vec<Word>,
 }
 
-/// Why a text is no listing, and the line, counted from 1, that shows it.
-#[derive(Drop)]
-pub struct TextFault {
-    pub line: usize,
-    pub fault: LineFault,
-}
-
-/// The lines read so far.
-#[derive(Drop)]
-struct Draft {
-    locals: Option<u8>,
-    words: Vec<Word>,
-}
-
-impl Draft {
-    /// Adds what the next line says.
-    fn read_line(&mut self, heap: Global, line: &str) -> Result<(), LineFault> {
-        let code = before_comment(line);
-        let words = words_of(heap, code)?;
-        if words.is_empty() {
-            return Ok(());
-        }
-        if self.locals.is_none() {
-            self.locals = Some(locals_line(heap, words.as_slice())?);
-        } else {
-            let word = instruction_line(heap, code, self.words.len())?;
-            self.words.push(word)?;
-        }
-        Ok(())
-    }
-}
-
 /// The listing that a text is.
 pub fn parse(heap: Global, text: &str) -> Result<Listing, TextFault> {
-    let mut draft = Draft {
-        locals: None,
-        words: Vec::new(heap),
-    };
-    let mut line = 1usize;
-    for (index, content) in text.lines().enumerate() {
-        line = index.saturating_add(1);
-        if let Err(fault) = draft.read_line(heap, content) {
-            return Err(TextFault { line, fault });
-        }
-    }
-    let Draft { locals, words } = draft;
-    match locals {
-        Some(locals) => Ok(Listing { locals, words }),
-        None => Err(TextFault {
-            line,
+    let mut lines = (1usize..)
+        .zip(text.lines().map(before_comment))
+        .filter(|(_, code)| !code.trim_ascii().is_empty());
+    let Some((line, first)) = lines.next() else {
+        return Err(TextFault {
+            line: text.lines().count().max(1),
             fault: LineFault::NoLocals,
-        }),
+        });
+    };
+    let locals = locals_line(heap, first).map_err(|fault| TextFault { line, fault })?;
+    let mut words = Vec::new(heap);
+    for (line, code) in lines {
+        add_instruction(heap, &mut words, code).map_err(|fault| TextFault { line, fault })?;
     }
+    Ok(Listing { locals, words })
 }
 
 /// The part of a line that its comment leaves.
-fn before_comment(line: &str) -> &str {
-    match line.split_once(';') {
-        Some((code, _)) => code,
-        None => line,
-    }
+fn before_comment(line: &str) -> &str
+    ensures { result.now ≡ before_first (λ byte. byte == COMMENT_MARK) line.now }
+{
+    line.split_once(COMMENT_MARK).map_or(line, |(code, _)| code)
 }
 
 /// The words of a text.
@@ -80,70 +52,63 @@ fn words_of(heap: Global, text: &str) -> Result<Vec<&str>, AllocError> {
 }
 
 /// The number of locals that the first line says.
-fn locals_line(heap: Global, words: &[&str]) -> Result<u8, LineFault> {
-    match words {
-        [name, count] if name.eq_ignore_ascii_case("locals") => byte(heap, count),
+fn locals_line(heap: Global, code: &str) -> Result<u8, LineFault> {
+    match words_of(heap, code)?.as_slice() {
+        [name, count] if name.eq_ignore_ascii_case("locals") => number(heap, count),
         _ => Err(LineFault::NoLocals),
     }
 }
 
-/// The word of an instruction at `place`, which may stand before it with a colon.
-fn instruction_line(heap: Global, code: &str, place: usize) -> Result<Word, LineFault> {
-    let Some((label, rest)) = code.split_once(':') else {
-        return instruction(heap, words_of(heap, code)?.as_slice());
-    };
-    match label.trim().parse::<usize>() {
-        Ok(said) if said == place => instruction(heap, words_of(heap, rest)?.as_slice()),
-        _ => Err(LineFault::WrongPlace(place)),
+/// Adds the word of the next instruction line.
+fn add_instruction(heap: Global, words: &mut Vec<Word>, code: &str) -> Result<(), LineFault>
+    ensures ok { OnOk result (vec_len words.new ≡ vec_len words.old + 1) }
+    ensures err { OnErr result (words.new.items ≡ words.old.items) }
+{
+    let word = instruction(heap, after_place(code, words.len())?)?;
+    words.push(word)?;
+    Ok(())
+}
+
+/// What follows the place and the colon, which may stand before the instruction at `place`.
+fn after_place(code: &str, place: usize) -> Result<&str, LineFault> {
+    match code.split_once(':') {
+        None => Ok(code),
+        Some((label, rest)) if label.trim().parse() == Ok(place) => Ok(rest),
+        Some(_) => Err(LineFault::WrongPlace(place)),
     }
 }
 
 /// The word that a name and its operands say.
-fn instruction(heap: Global, words: &[&str]) -> Result<Word, LineFault> {
-    let [name, operands @ ..] = words else {
+fn instruction(heap: Global, code: &str) -> Result<Word, LineFault> {
+    let words = words_of(heap, code)?;
+    let [name, operands @ ..] = words.as_slice() else {
         return Err(LineFault::NoInstruction);
     };
     let Some(op) = find(&MNEMONICS, name) else {
         return Err(LineFault::UnknownName(String::from_str(heap, name)?));
     };
     let mnemonic = MNEMONICS[op];
-    let op = op as u8;
-    match (mnemonic.1, operands) {
-        (Operands::None, []) => Ok(Word {
-            op,
-            drops: 0,
-            arg: 0,
-        }),
-        (Operands::DropsAndArgument, [drops, arg]) => {
-            Ok(Word {
-                op,
-                drops: byte(heap, drops)?,
-                arg: number(heap, arg)?,
-            })
-        }
-        (Operands::Local | Operands::Displacement, [arg]) => {
-            Ok(Word {
-                op,
-                drops: 0,
-                arg: number(heap, arg)?,
-            })
-        }
-        _ => Err(LineFault::WrongOperands(mnemonic)),
-    }
+    let (drops, arg) = match (mnemonic.operands, operands) {
+        (Operands::None, []) => (0, 0),
+        (Operands::DropsAndArgument, [drops, arg]) => (number(heap, drops)?, number(heap, arg)?),
+        (Operands::Local | Operands::Displacement, [arg]) => (0, number(heap, arg)?),
+        _ => return Err(LineFault::WrongOperands(mnemonic)),
+    };
+    // A row of the table stands at its number in the unit file.
+    Ok(Word {
+        op: op as u8,
+        drops,
+        arg,
+    })
 }
 
-/// A number of one byte.
-fn byte(heap: Global, word: &str) -> Result<u8, LineFault> {
-    match word.parse::<u8>() {
-        Ok(byte) => Ok(byte),
-        Err(_) => Err(LineFault::NotByte(String::from_str(heap, word)?)),
-    }
-}
-
-/// A signed number of 32 bits.
-fn number(heap: Global, word: &str) -> Result<i32, LineFault> {
-    match word.parse::<i32>() {
-        Ok(number) => Ok(number),
-        Err(_) => Err(LineFault::NotNumber(String::from_str(heap, word)?)),
-    }
+/// The number that a word is.
+// Not that of the command line, whose error borrows the word: this one outlives the text.
+fn number<T: InRange>(heap: Global, word: &str) -> Result<T, LineFault> {
+    word.parse().try_map_err(|_| {
+        Ok(LineFault::NotNumber {
+            word: String::from_str(heap, word)?,
+            range: T::RANGE,
+        })
+    })
 }

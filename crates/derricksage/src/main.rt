@@ -5,6 +5,7 @@ mod command;
 mod error;
 mod listing;
 mod mnemonic;
+mod number;
 mod perform;
 mod print;
 

@@ -4,7 +4,7 @@ ghost use Rattle.bytecode.specs.Layout.{file};
 
 use crate::command::{Command, HelpText};
 use crate::error::Error;
-use crate::listing::{Listing, TextFault};
+use crate::listing::Listing;
 use crate::print::{RunLine, UnitListing};
 use crate::{command, listing};
 use bytecode::fault::TooShort;
@@ -37,9 +37,7 @@ pub fn perform<'a>(rt: &HostRuntime, words: &'a [String]) -> Result<(), Error<'a
 fn assemble<'a>(rt: &HostRuntime, listing: &'a str, file: &'a str) -> Result<(), Error<'a>> {
     let listing = read_listing(rt, listing)?;
     let bytes = file_of(rt.alloc(), &listing)?;
-    if let Err(error) = fs::write(rt, file, bytes.as_slice()) {
-        return Err(Error::File { name: file, error });
-    }
+    fs::write(rt, file, bytes.as_slice()).map_err(|error| Error::File { name: file, error })?;
     println!(rt; "{} bytes", bytes.len())?;
     Ok(())
 }
@@ -63,6 +61,7 @@ fn run_once<'a>(
     let unit = read_unit(rt, file)?;
     let mut outputs = vec![in rt.alloc(); 0i32; room]?;
     let answer = run(&unit, inputs, outputs.as_mut_slice(), budget);
+    outputs.truncate(answer.written);
     let line = RunLine {
         answer: &answer,
         outputs: outputs.as_slice(),
@@ -73,26 +72,14 @@ fn run_once<'a>(
 
 /// The listing in the file of this name.
 fn read_listing<'a>(rt: &HostRuntime, name: &'a str) -> Result<Listing, Error<'a>> {
-    let text = match fs::read_to_string(rt, name) {
-        Ok(text) => text,
-        Err(error) => return Err(Error::File { name, error }),
-    };
-    match listing::parse(rt.alloc(), text.as_str()) {
-        Ok(listing) => Ok(listing),
-        Err(TextFault { line, fault }) => Err(Error::Listing { name, line, fault }),
-    }
+    let text = fs::read_to_string(rt, name).map_err(|error| Error::File { name, error })?;
+    listing::parse(rt.alloc(), text.as_str()).map_err(|fault| Error::Listing { name, fault })
 }
 
 /// The unit in the file of this name.
 fn read_unit<'a>(rt: &HostRuntime, name: &'a str) -> Result<Unit, Error<'a>> {
-    let bytes = match fs::read(rt, name) {
-        Ok(bytes) => bytes,
-        Err(error) => return Err(Error::File { name, error }),
-    };
-    match read(bytes.as_slice()) {
-        Ok(unit) => Ok(unit),
-        Err(fault) => Err(Error::Refused { name, fault }),
-    }
+    let bytes = fs::read(rt, name).map_err(|error| Error::File { name, error })?;
+    read(bytes.as_slice()).map_err(|fault| Error::Refused { name, fault })
 }
 
 /// The bytes of the unit file that a listing says.
@@ -100,12 +87,10 @@ fn file_of(heap: Global, listing: &Listing) -> Result<Vec<u8>, AllocError>
     ensures { IfOk result (λ bytes. bytes.items ≡ file listing.now.locals listing.now.words.items) }
 {
     let words = listing.words.as_slice();
-    let Some(length) = file_length(words.len()) else {
-        return Err(AllocError);
-    };
+    let length = file_length(words.len()).ok_or(AllocError)?;
     let mut bytes = vec![in heap; 0u8; length]?;
     match write_words(listing.locals, words, bytes.as_mut_slice()) {
         Ok(_) => Ok(bytes),
-        Err(TooShort) => unreachable(),
+        Err(TooShort) => unreachable!(),
     }
 }

@@ -5,7 +5,6 @@ use bytecode::jump::target;
 use bytecode::unit::Unit;
 use bytecode::word::Word;
 use machine::answer::Answer;
-use machine::ending::Ending;
 use std::fmt;
 
 /// A unit as a listing.
@@ -22,21 +21,21 @@ struct Line {
     len: usize,
 }
 
-/// How a run ended, and the outputs that it wrote at the front of `outputs`.
+/// How a run ended, and the outputs that it wrote.
 #[derive(Clone, Copy)]
 pub struct RunLine<'a> {
     pub answer: &'a Answer,
     pub outputs: &'a [i32],
 }
 
-impl<'a> fmt::Display for UnitListing<'a> {
+impl fmt::Display for UnitListing<'_> {
     fn fmt<W: fmt::Write>(&self, f: &mut fmt::Formatter<W>) -> fmt::Result {
         let unit = self.unit;
         writeln!(f, "locals {}", unit.locals)?;
-        for place in 0..unit.len {
+        for (place, &instr) in unit.code[..unit.len].iter().enumerate() {
             let line = Line {
                 place,
-                instr: unit.code[place],
+                instr,
                 len: unit.len,
             };
             writeln!(f, "{line}")?;
@@ -48,44 +47,36 @@ impl<'a> fmt::Display for UnitListing<'a> {
 impl fmt::Display for Line {
     fn fmt<W: fmt::Write>(&self, f: &mut fmt::Formatter<W>) -> fmt::Result {
         let Word { op, drops, arg } = Word::from(self.instr);
-        let Mnemonic(name, operands) = MNEMONICS[usize::from(op)];
+        let Mnemonic { name, operands } = MNEMONICS[usize::from(op)];
         write!(f, "{}: {name}", self.place)?;
         match operands {
             Operands::None => Ok(()),
             Operands::DropsAndArgument => write!(f, " {drops} {arg}"),
             Operands::Local => write!(f, " {arg}"),
-            Operands::Displacement => {
-                write!(f, " {arg}")?;
-                match target(self.place, arg, self.len) {
-                    Some(to) => write!(f, " ; to {to}"),
-                    None => Ok(()),
-                }
-            }
+            Operands::Displacement => match target(self.place, arg, self.len) {
+                Some(to) => write!(f, " {arg} ; to {to}"),
+                None => write!(f, " {arg}"),
+            },
         }
     }
 }
 
-impl<'a> fmt::Display for RunLine<'a> {
+impl fmt::Display for RunLine<'_> {
     fn fmt<W: fmt::Write>(&self, f: &mut fmt::Formatter<W>) -> fmt::Result {
-        let answer = self.answer;
-        let ending = ending_name(answer.ending);
-        write!(f, "{ending} place {} steps {}", answer.place, answer.steps)?;
-        write!(f, " inputs {} outputs", answer.used)?;
-        for output in self.outputs.iter().take(answer.written) {
+        let Answer {
+            ending,
+            place,
+            steps,
+            used,
+            ..
+        } = *self.answer;
+        write!(
+            f,
+            "{ending} place {place} steps {steps} inputs {used} outputs"
+        )?;
+        for output in self.outputs {
             write!(f, " {output}")?;
         }
         Ok(())
-    }
-}
-
-/// The name of an ending.
-fn ending_name(ending: Ending) -> &'static str {
-    match ending {
-        Ending::Running => "Running",
-        Ending::Halted => "Halted",
-        Ending::Trapped => "Trapped",
-        Ending::Dry => "Dry",
-        Ending::Full => "Full",
-        Ending::Stuck => "Stuck",
     }
 }

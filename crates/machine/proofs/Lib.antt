@@ -2,9 +2,8 @@ pub mod Stacks
 pub mod Numbers
 pub mod Rows
 pub mod Asks
-pub mod Entries
+pub mod Arrivals
 pub mod Turns
-pub mod Lands
 pub mod Runs
 pub mod Lockstep
 pub mod Units

@@ -1,10 +1,8 @@
 -- Facts on the values that the first items of a list are, last first.
-use Rattle.std.proofs.Common.{◌≡◌, ℕ, zero, suc, ◌+◌, ◌-◌, ◌<◌, ◌≤◌, true, false, ltb, leb, ◌≢◌, List, ◌∷◌, length, get_or, drop, set, pos, Some, None, refl, ap, add-one, arith, get_or-set_other, get_or-set_same}
+use Rattle.std.proofs.Common.{◌≡◌, ℕ, zero, suc, ◌+◌, ◌-◌, ◌<◌, ◌≤◌, true, false, ltb, leb, ◌≢◌, List, ◌∷◌, length, drop, set, Ok, Err, refl, ap, add-one, arith, get_or-set_other, get_or-set_same}
 use Rattle.std.proofs.lemmas.Bool.{lt-ltb, le-leb, lt-leb}
 use Rattle.machine.specs.declared.value.Value.{Value}
-use Rattle.machine.specs.declared.value.Value.TheVariants.{Num}
-use Rattle.machine.specs.Interpreter.{popped, pushed, dropped_by}
-use Rattle.machine.specs.Views.{below}
+use Rattle.machine.specs.Stack.{below, inapplicable, pushed, dropped_by}
 
 pub length-below : (items : List Value) (h : ℕ) → length (below items h) ≡ h
 length-below items zero = refl
@@ -18,18 +16,13 @@ below_set items (suc h) k v le =
     let e = below_set items h k v le' in
     rw (get_or-set_other, e)
 
-pub popped-below : (items : List Value) (h : ℕ) → 0 < h → Some (get_or items (h - 1) (Num (pos 0)), below items (h - 1)) ≡ popped (below items h)
-popped-below items zero lt = absurd (omega arith)
-popped-below items (suc h) lt =
-    let e : suc h - 1 ≡ h = omega arith in rw e
-
 below_push : (items : List Value) (h : ℕ) (v : Value) → h < length items → below (set items h v) (h + 1) ≡ v ∷ below items h
 below_push items h v lt =
     let le : h ≤ h = omega arith in
     let e = below_set items h h v le in
     rw (add-one, get_or-set_same, e)
 
-pub pushed-below : (items : List Value) (h : ℕ) (v : Value) → h < 8 → length items ≡ 8 → Some (tt, below (set items h v) (h + 1)) ≡ pushed v (below items h)
+pub pushed-below : (items : List Value) (h : ℕ) (v : Value) → h < 8 → length items ≡ 8 → Ok (tt, below (set items h v) (h + 1)) ≡ pushed v (below items h)
 pushed-below items h v lt le =
     let l : h < length items = omega arith in
     let t : ltb (length (below items h)) 8 ≡ true = lt-ltb _ _ (rw length-below lt) in
@@ -42,12 +35,12 @@ drop-below items (suc h) (suc k) le =
     let le' : k ≤ h = omega arith in
     let e : suc h - suc k ≡ h - k = omega arith in rw e (drop-below items h k le')
 
-pub dropped-below : (items : List Value) (h k : ℕ) → k ≤ h → Some (tt, below items (h - k)) ≡ dropped_by k (below items h)
+pub dropped-below : (items : List Value) (h k : ℕ) → k ≤ h → Ok (tt, below items (h - k)) ≡ dropped_by k (below items h)
 dropped-below items h k le =
     let t : leb k (length (below items h)) ≡ true = le-leb _ _ (rw length-below le) in
     rw (t, drop-below)
 
-pub short_below : (items : List Value) (h k : ℕ) → h < k → None ≡ dropped_by k (below items h)
+pub short_below : (items : List Value) (h k : ℕ) → h < k → Err inapplicable ≡ dropped_by k (below items h)
 short_below items h k lt =
     let t : leb k (length (below items h)) ≡ false = lt-leb _ _ (rw length-below lt) in
     rw t

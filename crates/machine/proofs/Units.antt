@@ -1,7 +1,7 @@
 -- A unit's run stays in its code, and is stuck only at an instruction that is not applicable.
-use Rattle.std.proofs.Common.{◌≡◌, ℕ, ◌+◌, ◌<◌, Bool, true, false, cond, ltb, List, [], ◌∷◌, length, get_or, ℤ, pos, negsuc, ◌+ℤ◌, is_some, Some, None, Option, sym, refl, ap, ◌∙◌, subst}
+use Rattle.std.proofs.Common.{◌≡◌, ℕ, ◌+◌, ◌<◌, Bool, true, false, cond, ltb, List, [], ◌∷◌, length, get_or, ℤ, pos, ◌+ℤ◌, is_some, Some, None, Option, sym, refl, ap, ◌∙◌, subst}
 use Rattle.std.proofs.lemmas.List.{get_or-take}
-use Rattle.std.proofs.lemmas.Bool.{and_parts, false≢true, ltb-true}
+use Rattle.std.proofs.lemmas.Bool.{and_parts, false≢true}
 use Rattle.std.specs.List.{slice_get}
 use Rattle.std.proofs.lemmas.Option.{slice_get-get_or}
 use Rattle.bytecode.specs.declared.instr.Instr.{Instr}
@@ -12,39 +12,14 @@ use Rattle.bytecode.proofs.Units.{length-held}
 use Rattle.machine.specs.declared.value.Value.{Value}
 use Rattle.machine.specs.declared.arith.Binary.{Binary}
 use Rattle.machine.specs.declared.arith.Binary.TheVariants as B
-use Rattle.machine.specs.declared.ending.Ending.{Ending}
 use Rattle.machine.specs.declared.ending.Ending.TheVariants.{Running, Halted, Trapped, Dry, Full, Stuck}
 use Rattle.machine.specs.Machine.{State, Turn, ends, goes, flag, flag_in, value_at, number_at, operate, Row, jumps, operates, binary, row, row_in, applicable, arrives, proceeds, turn_at}
+use Rattle.machine.proofs.Arrivals.{goes_within}
 use Rattle.machine.specs.Laws.{Reached, first, later, StaysInside, StuckInapplicable}
-
--- the turn goes to one of n places, if it goes on
-abbrev Within : ℕ → Turn → Type 0
-Within n (ends e) = Unit {0}
-Within n (goes t) = t.place < n
-
-Within-arrives : (n : ℕ) (w : Row) (s : State) (z : ℤ) → Within n (arrives w s (inside n z))
-Within-arrives n w s (pos p) = go (ltb p n) (ltb-true p n)
-  where
-    go : (b : Bool) → (b ≡ true → p < n) → Within n (arrives w s (cond b (Some p) None))
-    go true lt = lt refl
-    go false lt = tt
-Within-arrives n w s (negsuc p) = tt
-
-Within-proceeds : (n : ℕ) (w : Row) (s : State) (o : Option Ending) → Within n (proceeds n w s o)
-Within-proceeds n w s (Some e) = tt
-Within-proceeds n w s None = Within-arrives n w s (pos s.place +ℤ w.by)
-
-Within-tests : (n : ℕ) (w : Row) (s : State) (b : Bool) → Within n (cond b (proceeds n w s w.stops) (ends Stuck))
-Within-tests n w s true = Within-proceeds n w s w.stops
-Within-tests n w s false = tt
-
-Within-turn : (n : ℕ) (inputs : List ℤ) (room : ℕ) (s : State) (o : Option Instr) → Within n (turn_at n inputs room s o)
-Within-turn n inputs room s None = tt
-Within-turn n inputs room s (Some i) = Within-tests n (row_in inputs room s i) s (applicable (row_in inputs room s i) s.stack)
 
 pub reached_inside : (code : List Instr) (inputs : List ℤ) (room : ℕ) (s : State) → 0 < length code → Reached code inputs room s → s.place < length code
 reached_inside code inputs room s some first = some
-reached_inside code inputs room s some (later {s = t} r e) = subst (Within (length code)) e (Within-turn (length code) inputs room t (slice_get code t.place))
+reached_inside code inputs room s some (later {s = t} r e) = (goes_within code inputs room t s e).0
 
 pub stays_inside : StaysInside
 stays_inside u inputs room s r = reached_inside (held u) inputs room s (rw (length-held u) u.some) r

@@ -1,4 +1,5 @@
 pub mod Machine
+pub mod Stack
 pub mod Interpreter
 pub mod Views
 pub mod Laws

@@ -1,48 +1,56 @@
--- What the interpreter's own types stand for: the values of a `Stack`, and the state of a `Progress`. Assumes nothing.
-use Rattle.std.specs.Prelude.{◌≡◌, ℕ, zero, suc, ◌+◌, ◌^◌, ◌<◌, ◌≤◌, List, [], ◌∷◌, length, take, drop, ℤ, pos, Some, None, Option, slice_index_or}
-use Rattle.machine.specs.declared.value.Value.{Value}
-use Rattle.machine.specs.declared.value.Value.TheVariants.{Num}
-use Rattle.machine.specs.declared.stack.Stack.{Stack}
-use Rattle.machine.specs.declared.memory.Memory.{Memory}
+-- The state that a `Progress` stands for, and what a step leaves as it was. Assumes nothing.
+use Rattle.std.specs.Prelude.{◌≡◌, ℕ, ◌+◌, ◌^◌, ◌<◌, ◌≤◌, List, length, take, drop, ℤ, Result, Ok, Err}
+use Rattle.bytecode.specs.declared.instr.Instr.{Instr}
 use Rattle.machine.specs.declared.flow.Flow.{Flow}
-use Rattle.machine.specs.declared.flow.Flow.TheVariants.{Next, Jump, Read, Write, Ends}
+use Rattle.machine.specs.declared.flow.Flow.TheVariants.{Next, Jump, Read, Write}
 use Rattle.machine.specs.declared.ending.Ending.{Ending}
+use Rattle.machine.specs.declared.answer.Answer.{Answer}
 use Rattle.machine.specs.declared.progress.Progress.{Progress}
-use Rattle.machine.specs.Machine.{State}
-use Rattle.machine.specs.Interpreter.{Held, at_place}
+use Rattle.machine.specs.Machine.{State, Turn}
+use Rattle.machine.specs.Interpreter.{at_place, stepped}
 
--- the first h of the items, last first
-abbrev pub below : List Value → ℕ → List Value
-below items zero = []
-below items (suc h) = slice_index_or items h (Num (pos 0)) ∷ below items h
+abbrev pub outputs_of : Progress → List ℤ
+outputs_of m = take m.written m.outputs.now
 
-abbrev pub stack_of : Stack → List Value
-stack_of s = below s.items s.height
+abbrev pub state_of : Progress → State
+state_of m = at_place m.place m.memory m.used (outputs_of m)
 
-abbrev pub held_of : Memory → Held
-held_of m = (stack_of m.stack, m.locals)
+-- the length of the output buffer
+abbrev pub room_of : Progress → ℕ
+room_of m = length m.outputs.now
 
--- with the output buffer
-abbrev pub state_of : Progress → List ℤ → State
-state_of m buffer = at_place m.place (held_of m.memory) m.used (take m.written buffer)
+abbrev pub step_of : Progress → Turn
+step_of m = stepped m.code.now m.inputs.now (room_of m) (state_of m)
+
+-- it runs this code on these inputs, and the buffer is as it was handed in
+pub record Begins (code : List Instr) (inputs : List ℤ) (buffer : List ℤ) (m : Progress) : Type 0 where
+  pub runs : m.code.now ≡ code
+  pub reads : m.inputs.now ≡ inputs
+  pub same : m.outputs.now ≡ buffer
+
+-- what the run answers where it ends here after k steps
+abbrev pub answer_of : Progress → Ending → ℕ → Answer
+answer_of m e k = record { ending = e; place = m.place; steps = k; used = m.used; written = m.written }
 
 -- all that is shown is as it was
-pub record Same (m : Progress) (b : List ℤ) (m' : Progress) (b' : List ℤ) : Type 0 where
+pub record Same (m m' : Progress) : Type 0 where
   pub place : m'.place ≡ m.place
   pub used : m'.used ≡ m.used
+  pub outputs : m'.outputs.now ≡ m.outputs.now
   pub written : m'.written ≡ m.written
-  pub buffer : b' ≡ b
 
--- the buffer past the outputs is as it was
-pub record Onward (m : Progress) (b : List ℤ) (m' : Progress) (b' : List ℤ) : Type 0 where
+-- the code, the inputs and the buffer past the outputs are as they were
+pub record Onward (m m' : Progress) : Type 0 where
+  pub code : m'.code.now ≡ m.code.now
+  pub inputs : m'.inputs.now ≡ m.inputs.now
+  pub room : room_of m' ≡ room_of m
   pub more : m.written ≤ m'.written
-  pub within : m'.written ≤ length b'
-  pub rest : drop m'.written b' ≡ drop m'.written b
+  pub past : drop m'.written m'.outputs.now ≡ drop m'.written m.outputs.now
 
 -- what a step leaves as it was
-abbrev pub Kept : Option Ending → Progress → List ℤ → Progress → List ℤ → Type 0
-Kept (Some e) m b m' b' = Same m b m' b'
-Kept None m b m' b' = Onward m b m' b'
+abbrev pub Kept : Result (Unit {0}) Ending → Progress → Progress → Type 0
+Kept (Err e) m m' = Same m m'
+Kept (Ok u) m m' = Onward m m'
 
 -- the input can be counted, and the output has room in a buffer of n
 abbrev pub Able : Flow → ℕ → ℕ → ℕ → Type 0
@@ -50,4 +58,3 @@ Able Next used written n = Unit {0}
 Able (Jump by) used written n = Unit {0}
 Able Read used written n = used + 1 < 2 ^ 64
 Able (Write v) used written n = written < n
-Able (Ends e) used written n = Unit {0}

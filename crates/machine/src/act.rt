@@ -1,7 +1,7 @@
 //! What each instruction does to the stack and the locals, and where the run goes from there.
 ghost use Rattle.std.specs.Prelude.{◌≡◌};
-ghost use Rattle.machine.specs.Interpreter.{gives, literal, dropped, copied, exchanged, loaded, stored, combined, negated, branched, taken, given, act};
-ghost use Rattle.machine.specs.Views.{held_of};
+ghost use Rattle.machine.specs.Stack.{gives};
+ghost use Rattle.machine.specs.Interpreter.{literal, dropped, copied, exchanged, loaded, stored, combined, negated, branched, taken, given, act};
 
 use crate::arith::Binary;
 use crate::ending::Ending;
@@ -11,128 +11,117 @@ use crate::value::Value;
 use bytecode::instr::Instr;
 
 impl Memory {
-    fn literal(&mut self, drops: u8, value: Value) -> Option<Flow>
-        ensures { gives result (held_of self.new) ≡ literal drops value (held_of self.old) }
+    fn literal(&mut self, drops: u8, value: Value) -> Result<Flow, Ending>
+        ensures { gives result self.new ≡ literal drops value self.old }
     {
         self.stack.drop_by(drops)?;
         self.stack.push(value)?;
-        Some(Flow::Next)
+        Ok(Flow::Next)
     }
 
-    fn discard(&mut self, flow: Flow) -> Option<Flow>
-        ensures { gives result (held_of self.new) ≡ dropped flow (held_of self.old) }
+    fn discard(&mut self, flow: Flow) -> Result<Flow, Ending>
+        ensures { gives result self.new ≡ dropped flow self.old }
     {
         self.stack.drop_by(1)?;
-        Some(flow)
+        Ok(flow)
     }
 
-    fn copy(&mut self) -> Option<Flow>
-        ensures { gives result (held_of self.new) ≡ copied (held_of self.old) }
+    fn copy(&mut self) -> Result<Flow, Ending>
+        ensures { gives result self.new ≡ copied self.old }
     {
         let top = self.stack.pop()?;
         self.stack.push(top)?;
         self.stack.push(top)?;
-        Some(Flow::Next)
+        Ok(Flow::Next)
     }
 
-    fn exchange(&mut self) -> Option<Flow>
-        ensures { gives result (held_of self.new) ≡ exchanged (held_of self.old) }
+    fn exchange(&mut self) -> Result<Flow, Ending>
+        ensures { gives result self.new ≡ exchanged self.old }
     {
         let top = self.stack.pop()?;
         let second = self.stack.pop()?;
         self.stack.push(top)?;
         self.stack.push(second)?;
-        Some(Flow::Next)
+        Ok(Flow::Next)
     }
 
-    fn load(&mut self, local: u8) -> Option<Flow>
-        ensures { gives result (held_of self.new) ≡ loaded local (held_of self.old) }
+    fn load(&mut self, local: u8) -> Result<Flow, Ending>
+        ensures { gives result self.new ≡ loaded local self.old }
     {
         if local >= 16 {
-            return None;
+            return Err(Ending::Stuck);
         }
-        let value = self.locals[local as usize]?;
+        let value = self.locals[local as usize].ok_or(Ending::Stuck)?;
         self.stack.push(value)?;
-        Some(Flow::Next)
+        Ok(Flow::Next)
     }
 
-    fn store(&mut self, local: u8) -> Option<Flow>
-        ensures { gives result (held_of self.new) ≡ stored local (held_of self.old) }
+    fn store(&mut self, local: u8) -> Result<Flow, Ending>
+        ensures { gives result self.new ≡ stored local self.old }
     {
         if local >= 16 {
-            return None;
+            return Err(Ending::Stuck);
         }
         let value = self.stack.pop()?;
         self.locals[local as usize] = Some(value);
-        Some(Flow::Next)
+        Ok(Flow::Next)
     }
 
-    fn binary(&mut self, op: Binary) -> Option<Flow>
-        ensures { gives result (held_of self.new) ≡ combined op (held_of self.old) }
+    fn binary(&mut self, op: Binary) -> Result<Flow, Ending>
+        ensures { gives result self.new ≡ combined op self.old }
     {
-        let b = self.stack.pop_number()?;
-        let a = self.stack.pop_number()?;
-        match op.apply(a, b) {
-            Some(value) => {
-                self.stack.push(value)?;
-                Some(Flow::Next)
-            }
-            None => Some(Flow::Ends(Ending::Trapped)),
-        }
+        let b = i32::try_from(self.stack.pop()?)?;
+        let a = i32::try_from(self.stack.pop()?)?;
+        let value = op.apply(a, b).ok_or(Ending::Trapped)?;
+        self.stack.push(value)?;
+        Ok(Flow::Next)
     }
 
-    fn negate(&mut self) -> Option<Flow>
-        ensures { gives result (held_of self.new) ≡ negated (held_of self.old) }
+    fn negate(&mut self) -> Result<Flow, Ending>
+        ensures { gives result self.new ≡ negated self.old }
     {
-        let flag = self.stack.pop_flag()?;
+        let flag = bool::try_from(self.stack.pop()?)?;
         self.stack.push(Value::Flag(!flag))?;
-        Some(Flow::Next)
+        Ok(Flow::Next)
     }
 
-    fn branch(&mut self, by: i32) -> Option<Flow>
-        ensures { gives result (held_of self.new) ≡ branched by (held_of self.old) }
+    fn branch(&mut self, by: i32) -> Result<Flow, Ending>
+        ensures { gives result self.new ≡ branched by self.old }
     {
-        if self.stack.pop_flag()? {
-            Some(Flow::Next)
+        if bool::try_from(self.stack.pop()?)? {
+            Ok(Flow::Next)
         } else {
-            Some(Flow::Jump(by))
+            Ok(Flow::Jump(by))
         }
     }
 
     /// Room for a value comes before the input, so that a full stack is not applicable.
-    fn read(&mut self, input: Option<i32>) -> Option<Flow>
-        ensures { gives result (held_of self.new) ≡ taken input (held_of self.old) }
+    fn read(&mut self, input: Option<i32>) -> Result<Flow, Ending>
+        ensures { gives result self.new ≡ taken input self.old }
     {
-        match input {
-            Some(number) => {
-                self.stack.push(Value::Num(number))?;
-                Some(Flow::Read)
-            }
-            None => {
-                self.stack.push(Value::Num(0))?;
-                Some(Flow::Ends(Ending::Dry))
-            }
-        }
+        self.stack.push(Value::Num(input.unwrap_or(0)))?;
+        input.ok_or(Ending::Dry)?;
+        Ok(Flow::Read)
     }
 
-    fn write(&mut self, room: bool) -> Option<Flow>
-        ensures { gives result (held_of self.new) ≡ given room (held_of self.old) }
+    fn write(&mut self, room: bool) -> Result<Flow, Ending>
+        ensures { gives result self.new ≡ given room self.old }
     {
-        let number = self.stack.pop_number()?;
+        let number = i32::try_from(self.stack.pop()?)?;
         if room {
-            Some(Flow::Write(number))
+            Ok(Flow::Write(number))
         } else {
-            Some(Flow::Ends(Ending::Full))
+            Err(Ending::Full)
         }
     }
 
-    /// None where the instruction is not applicable; the memory is not shown then, and may be anything.
-    pub fn act(&mut self, instr: Instr, input: Option<i32>, room: bool) -> Option<Flow>
-        ensures { gives result (held_of self.new) ≡ act instr input room (held_of self.old) }
+    /// Where it is an error, the memory is not shown, and may be anything.
+    pub fn act(&mut self, instr: Instr, input: Option<i32>, room: bool) -> Result<Flow, Ending>
+        ensures { gives result self.new ≡ act instr input room self.old }
     {
         match instr {
-            Instr::Nop => Some(Flow::Next),
-            Instr::Halt => Some(Flow::Ends(Ending::Halted)),
+            Instr::Nop => Ok(Flow::Next),
+            Instr::Halt => Err(Ending::Halted),
             Instr::Lit { drops, value } => self.literal(drops, Value::Num(value)),
             Instr::LitFlag { drops, value } => self.literal(drops, Value::Flag(value)),
             Instr::Pop => self.discard(Flow::Next),
@@ -147,7 +136,7 @@ impl Memory {
             Instr::Eq => self.binary(Binary::Eq),
             Instr::Lt => self.binary(Binary::Lt),
             Instr::Not => self.negate(),
-            Instr::Jmp(by) => Some(Flow::Jump(by)),
+            Instr::Jmp(by) => Ok(Flow::Jump(by)),
             Instr::Jf(by) => self.branch(by),
             Instr::DropJmp(by) => self.discard(Flow::Jump(by)),
             Instr::In => self.read(input),

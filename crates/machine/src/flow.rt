@@ -1,5 +1,4 @@
 //! Where a run goes from an instruction.
-use crate::ending::Ending;
 
 /// What is left to do once an instruction has worked on the stack and the locals.
 #[derive(Clone, Copy)]
@@ -9,5 +8,4 @@ pub enum Flow {
     /// Counts the input that was pushed.
     Read,
     Write(i32),
-    Ends(Ending),
 }

@@ -14,12 +14,15 @@ pub trait Simulation {
 
     ghost related: { List Instr → List Instr → List ℤ → ℕ → State → State → Type 0 };
 
-    ghost stands: { (code other : List Instr) → rewrites code other → (inputs : List ℤ) (room : ℕ) → InStep code other inputs room (related code other inputs room) };
+    ghost stands: { (code other : List Instr) → rewrites code other →
+        (inputs : List ℤ) (room : ℕ) →
+        InStep code other inputs room (related code other inputs room) };
 }
 
 /// What every simulation gives: the whole answers are equal.
 pub fn lockstep<S: Simulation>()
-    ensures { (code other : List Instr) → S.Simulation.rewrites code other → SameAnswers code other }
+    ensures { (code other : List Instr) →
+        S.Simulation.rewrites code other → SameAnswers code other }
 {}
 
 /// HALT in the place of an instruction that no run comes to.

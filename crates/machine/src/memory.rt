@@ -1,12 +1,12 @@
 //! What the instructions work on.
 ghost use Rattle.std.specs.Prelude.{◌≡◌, [], replicate, None};
-ghost use Rattle.machine.specs.Views.{held_of};
+ghost use Rattle.machine.specs.Interpreter.{memory};
 
 use crate::stack::Stack;
 use crate::value::Value;
 
 /// The stack and the 16 locals, each of which may be unset.
-#[derive(Clone, Copy)]
+#[derive(Drop)]
 pub struct Memory {
     pub stack: Stack,
     pub locals: [Option<Value>; 16],
@@ -14,7 +14,7 @@ pub struct Memory {
 
 impl Memory {
     pub fn new() -> Memory
-        ensures { held_of result ≡ ([], replicate 16 None) }
+        ensures { result ≡ memory [] (replicate 16 None) }
     {
         Memory {
             stack: Stack::new(),

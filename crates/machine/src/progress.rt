@@ -1,9 +1,7 @@
 //! A run in progress.
-ghost use Rattle.std.specs.Prelude.{◌≡◌, ◌≤◌, List, length, ℤ};
+ghost use Rattle.std.specs.Prelude.{◌≡◌, ◌≤◌, length};
 ghost use Rattle.std.specs.List.{slice_get};
-ghost use Rattle.machine.specs.Machine.{start, turn};
-ghost use Rattle.machine.specs.Interpreter.{shift, moved, turned};
-ghost use Rattle.machine.specs.Views.{held_of, state_of, Kept, Onward, Able};
+ghost use Rattle.machine.specs.Interpreter.{shift};
 
 use crate::answer::Answer;
 use crate::ending::Ending;
@@ -13,19 +11,17 @@ use bytecode::instr::Instr;
 use bytecode::jump::target;
 
 /// The run between two instructions; its outputs are the first `written` of the caller's buffer.
-#[derive(Clone, Copy)]
-pub struct Progress {
-    pub place: usize,
-    pub memory: Memory,
-    pub used: usize,
-    pub written: usize,
-}
-
-/// The next input, if one is left.
-fn next_input(inputs: &[i32], used: usize) -> Option<i32>
-    ensures { result ≡ slice_get inputs.now used }
-{
-    inputs.get(used).copied()
+#[derive(Drop)]
+pub struct Progress<'a> {
+    code: &'a [Instr],
+    inputs: &'a [i32],
+    // Kept out of a struct with `written`: no proof sees what a nested struct leaves in a `&mut`.
+    outputs: &'a mut [i32],
+    place: usize,
+    memory: Memory,
+    used: usize,
+    written: usize,
+    ghost within: { written ≤ length outputs.now },
 }
 
 /// How far the run goes from the instruction's own place.
@@ -38,12 +34,20 @@ fn distance(flow: Flow) -> i32
     }
 }
 
-impl Progress {
-    pub fn new() -> Progress
-        ensures state { (buffer : List ℤ) → state_of result buffer ≡ start }
-        ensures none { result.written ≡ 0 }
+impl<'a> Progress<'a> {
+    ghost use Rattle.machine.specs.Machine.{start};
+    ghost use Rattle.machine.specs.Interpreter.{moved, turned};
+    ghost use Rattle.machine.specs.Views.{state_of, step_of, answer_of, Begins, Kept, Onward, Able};
+
+    pub fn new(code: &'a [Instr], inputs: &'a [i32], outputs: &'a mut [i32]) -> Progress<'a>
+        ensures same_reference { result.outputs.ghost_name ≡ outputs.entry.ghost_name }
+        ensures begins { Begins code.now inputs.now outputs.old result }
+        ensures state { state_of result ≡ start }
     {
         Progress {
+            code,
+            inputs,
+            outputs,
             place: 0,
             memory: Memory::new(),
             used: 0,
@@ -51,17 +55,30 @@ impl Progress {
         }
     }
 
+    fn instr(&self) -> Option<Instr>
+        ensures { result ≡ slice_get self.now.code.now self.now.place }
+    {
+        self.code.get(self.place).copied()
+    }
+
+    /// The next input, if one is left.
+    fn input(&self) -> Option<i32>
+        ensures { result ≡ slice_get self.now.inputs.now self.now.used }
+    {
+        self.inputs.get(self.used).copied()
+    }
+
     /// Goes on to the place `to`, with the input or the output that the flow asks for.
-    fn onward(&mut self, flow: Flow, to: usize, outputs: &mut [i32])
-        requires within { self.old.written ≤ length outputs.old }
-        requires able { Able flow self.old.used self.old.written (length outputs.old) }
-        ensures state { state_of self.new outputs.new ≡ moved self.old.used (state_of self.old outputs.old).outputs flow (held_of self.old.memory) to }
-        ensures rest { Onward self.old outputs.old self.new outputs.new }
+    fn onward(&mut self, flow: Flow, to: usize)
+        requires { Able flow self.old.used self.old.written (length self.old.outputs.now) }
+        ensures same_reference { self.new.outputs.ghost_name ≡ self.old.outputs.ghost_name }
+        ensures state { state_of self.new ≡ moved (state_of self.old) flow self.old.memory to }
+        ensures rest { Onward self.old self.new }
     {
         match flow {
             Flow::Read => self.used += 1,
             Flow::Write(number) => {
-                outputs[self.written] = number;
+                self.outputs[self.written] = number;
                 self.written += 1;
             }
             _ => {}
@@ -69,33 +86,25 @@ impl Progress {
         self.place = to;
     }
 
-    /// One instruction; the ending, where the run ends at it.
-    pub fn step(&mut self, code: &[Instr], inputs: &[i32], outputs: &mut [i32]) -> Option<Ending>
-        requires { self.old.written ≤ length outputs.old }
-        ensures turns { turned result (state_of self.new outputs.new) ≡ turn code.now inputs.now (length outputs.old) (state_of self.old outputs.old) }
-        ensures rest { Kept result self.old outputs.old self.new outputs.new }
+    /// One instruction; an error where the run ends at it.
+    pub fn step(&mut self) -> Result<(), Ending>
+        ensures same_reference { self.new.outputs.ghost_name ≡ self.old.outputs.ghost_name }
+        ensures turns { turned result (state_of self.new) ≡ step_of self.old }
+        ensures rest { Kept result self.old self.new }
     {
-        if self.place >= code.len() {
-            return Some(Ending::Stuck);
-        }
-        let room = self.written < outputs.len();
-        let input = next_input(inputs, self.used);
-        let Some(flow) = self.memory.act(code[self.place], input, room) else {
-            return Some(Ending::Stuck);
-        };
-        if let Flow::Ends(ending) = flow {
-            return Some(ending);
-        }
-        let Some(to) = target(self.place, distance(flow), code.len()) else {
-            return Some(Ending::Stuck);
-        };
-        self.onward(flow, to, outputs);
-        None
+        let instr = self.instr().ok_or(Ending::Stuck)?;
+        let input = self.input();
+        let room = self.written < self.outputs.len();
+        let flow = self.memory.act(instr, input, room)?;
+        let to = target(self.place, distance(flow), self.code.len()).ok_or(Ending::Stuck)?;
+        self.onward(flow, to);
+        Ok(())
     }
 
     /// What the run answers if it ends here.
+    // No `From`: the ending and the steps are not the progress's own.
     pub fn ended(&self, ending: Ending, steps: u32) -> Answer
-        ensures { result ≡ record { ending = ending; place = self.now.place; steps = steps; used = self.now.used; written = self.now.written } }
+        ensures { result ≡ answer_of self.now ending steps }
     {
         Answer {
             ending,

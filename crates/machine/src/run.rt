@@ -11,22 +11,22 @@ use bytecode::unit::Unit;
 
 /// The run of any code, a unit's or not.
 fn run_code(code: &[Instr], inputs: &[i32], outputs: &mut [i32], budget: u32) -> Answer
-    ensures { Answers (whole_run code.now inputs.now (length outputs.old) budget) result outputs.old outputs.new }
+    ensures { Answers (whole_run code.now inputs.now (length outputs.old) budget) result
+        outputs.old outputs.new }
 {
-    let mut progress = Progress::new();
-    let mut steps = 0;
-    while steps < budget {
-        if let Some(ending) = progress.step(code, inputs, outputs) {
+    let mut progress = Progress::new(code, inputs, outputs);
+    for steps in 0..budget {
+        if let Err(ending) = progress.step() {
             return progress.ended(ending, steps);
         }
-        steps += 1;
     }
-    progress.ended(Ending::Running, steps)
+    progress.ended(Ending::Running, budget)
 }
 
 /// Runs a unit for at most `budget` steps, with its outputs at the start of the buffer `outputs`.
 pub fn run(unit: &Unit, inputs: &[i32], outputs: &mut [i32], budget: u32) -> Answer
-    ensures { Answers (whole_run (held unit.now) inputs.now (length outputs.old) budget) result outputs.old outputs.new }
+    ensures { Answers (whole_run (held unit.now) inputs.now (length outputs.old) budget) result
+        outputs.old outputs.new }
 {
     run_code(&unit.code[0..unit.len], inputs, outputs, budget)
 }

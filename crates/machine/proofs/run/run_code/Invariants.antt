@@ -1,16 +1,13 @@
-use Rattle.std.proofs.Common.{◌≡◌, ◌-◌, ◌≤◌, length, drop}
+use Rattle.std.proofs.Common.{◌≡◌, ◌-◌, ◌≤◌, length}
 use Rattle.machine.specs.Machine.{run_from, whole_run}
-use Rattle.machine.specs.Views.{state_of}
+use Rattle.machine.specs.Views.{state_of, room_of, Onward}
 use Rattle.machine.proofs.run.run_code.Given as goal
 
--- what is left of the run gives the whole answer, and the buffer past the outputs is as it was
+-- what is left of the run gives the whole answer
 abbrev pub invariant-loop-steps : goal.invariant-loop-steps
 invariant-loop-steps l = record {
-  rest : run_from l.code l.inputs (length l.initial.outputs) (l.budget - l.steps) l.steps (state_of l.progress l.outputs) ≡ whole_run l.code l.inputs (length l.initial.outputs) l.budget;
-  done : l.steps ≤ l.budget;
-  within : l.progress.written ≤ length l.outputs;
-  past : drop l.progress.written l.outputs ≡ drop l.progress.written l.initial.outputs;
+  same_reference : l.progress.outputs.ghost_name ≡ l.initial.progress.outputs.ghost_name;
+  short : length l.progress.memory.stack ≤ 8;
+  since : Onward l.initial.progress l.progress;
+  rest : run_from l.progress.code.now l.progress.inputs.now (room_of l.progress) (l.budget - l.steps) l.steps (state_of l.progress) ≡ whole_run l.code l.inputs (length l.fn.outputs) l.budget;
 }
-
-abbrev pub decreases-loop-steps : goal.decreases-loop-steps
-decreases-loop-steps l = l.budget - l.steps

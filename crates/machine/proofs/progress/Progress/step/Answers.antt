@@ -1,56 +1,37 @@
-use Rattle.std.proofs.Common.{◌≡◌, length, get_or, Some, None, sym, refl, ap, ◌∙◌, rules}
-use Rattle.bytecode.specs.declared.instr.Instr.TheVariants as I
-use Rattle.machine.specs.Machine.{goes, turn}
-use Rattle.machine.specs.Interpreter.{follow}
-use Rattle.machine.specs.Views.{held_of, state_of}
-use Rattle.machine.proofs.Entries.{turn_out}
-use Rattle.machine.proofs.Turns.{turn_in, follow_to, able}
+use Rattle.std.proofs.Common.{rules, ◌≡◌, length, Some, None, Ok, Err, sym, refl, ap, ◌∙◌}
+use Rattle.std.specs.Option.{ok_or}
+use Rattle.std.proofs.lemmas.Result.{err_from_is_err_and}
+use Rattle.machine.specs.declared.ending.Ending.TheVariants.{Stuck}
+use Rattle.machine.specs.Machine.{goes}
+use Rattle.machine.specs.Interpreter.{acted}
+use Rattle.machine.specs.Views.{state_of, step_of}
+use Rattle.machine.proofs.Turns.{step_in, lands_at, able}
 use Rattle.machine.proofs.progress.Progress.step.Goals as goal
-use Rattle.machine.proofs.progress.Progress.step.Goals.{In-Some}
+use Rattle.machine.proofs.progress.Progress.step.Goals.{In_ok-flow}
 
-pub returns-then-self-code : goal.returns-then-self-code
-returns-then-self-code c = record {
-  turns = turn_out _ _ _ _ c.if-self-code.true;
-  rest = record { place = refl; used = refl; written = refl; buffer = refl };
-}
-
-pub returns-in_default : goal.returns-in_default
-returns-in_default c = record {
-  turns = turn_in c.args.code.now c.args.inputs.now c.args.outputs.now c.args.self.now c.next_input-input.result None c.if-self-code.false c.requires c.next_input-input.ensures c.in_default.ensures;
-  rest = record { place = refl; used = refl; written = refl; buffer = refl };
-}
+pub returns-in_err-flow-clause-turns : goal.returns-in_err-flow-clause-turns
+returns-in_err-flow-clause-turns c =
+    let p = err_from_is_err_and c.from_residual-in_err-flow.result c.from_residual-in_err-flow.ensures.1 in
+    rw (p.1, p.2) (step_in c.args.self.now c.in_ok-instr.instr c.input-input.result _ (Err c.in_err-flow.field-0.0) (sym c.instr.ensures ∙ c.in_ok-instr.ensures.ok_part) c.input-input.ensures refl c.in_err-flow.ensures)
 
 -- the instruction is applicable
-worked : (c : In-Some) → follow (length c.args.code.now) (state_of c.args.self.now c.args.outputs.now) c.in-Some.flow (held_of c.act.new.self) ≡ turn c.args.code.now c.args.inputs.now (length c.args.outputs.now) (state_of c.args.self.now c.args.outputs.now)
-worked c = turn_in c.args.code.now c.args.inputs.now c.args.outputs.now c.args.self.now c.next_input-input.result (Some (c.in-Some.flow, held_of c.act.new.self)) c.if-self-code.false c.requires c.next_input-input.ensures c.in-Some.ensures
+worked : (c : In_ok-flow) → acted (length c.args.self.now.code.now) (state_of c.args.self.now) (Ok (c.in_ok-flow.flow, c.act.new.self)) ≡ step_of c.args.self.now
+worked c = step_in c.args.self.now c.in_ok-instr.instr c.input-input.result _ (Ok (c.in_ok-flow.flow, c.act.new.self)) (sym c.instr.ensures ∙ c.in_ok-instr.ensures.ok_part) c.input-input.ensures refl c.in_ok-flow.ensures
 
-pub returns-in-Ends : goal.returns-in-Ends
-returns-in-Ends c = record {
-  turns =
-      ap (λ f. follow (length c.args.code.now) (state_of c.args.self.now c.args.outputs.now) f (held_of c.act.new.self)) (sym c.in-Ends.is)
-      ∙ worked (goal.at.returns-in-Ends c).In-Some;
-  rest = record { place = refl; used = refl; written = refl; buffer = refl };
-}
-
-pub returns-in_default-target : goal.returns-in_default-target
-returns-in_default-target c = record {
-  turns =
-      follow_to (length c.args.code.now) (state_of c.args.self.now c.args.outputs.now) c.in-Some.flow (held_of c.act.new.self) c.distance.result None c.in_default-flow.not-Ends (search rules) c.distance.ensures c.in_default-target.ensures
-      ∙ worked (goal.at.returns-in_default-target c).In-Some;
-  rest = record { place = refl; used = refl; written = refl; buffer = refl };
-}
+pub returns-in_err-to-clause-turns : goal.returns-in_err-to-clause-turns
+returns-in_err-to-clause-turns c =
+    let p = err_from_is_err_and c.from_residual-in_err-to.result c.from_residual-in_err-to.ensures.1 in
+    let e : Err c.in_err-to.field-0.0 ≡ ok_or None Stuck = c.in_err-to.ensures.value ∙ ap (λ o. ok_or o Stuck) c.in_err-to.ensures.ok_part in
+    let stuck : c.in_err-to.field-0.0 ≡ Stuck = cc in
+    rw (p.1, p.2, stuck)
+    (lands_at (length c.args.self.now.code.now) (state_of c.args.self.now) c.in_ok-flow.flow c.act.new.self c.distance.result None (search rules) c.distance.ensures (sym c.in_err-to.ensures.ok_part ∙ c.target.ensures)
+    ∙ worked (goal.at.returns-in_err-to-clause-turns c).In_ok-flow)
 
 pub onward-requires : goal.onward-requires
-onward-requires c = record {
-  within = c.requires;
-  able = able (get_or c.args.code.now c.args.self.now.place I.Nop) c.args.inputs.now c.args.self.now.used c.args.self.now.written (length c.args.outputs.now) c.next_input-input.result (held_of c.args.self.now.memory) (held_of c.act.new.self) c.in-Some.flow (search rules) c.next_input-input.ensures c.in-Some.ensures;
-}
+onward-requires c = able c.in_ok-instr.instr c.args.self.now c.input-input.result _ c.args.self.now.memory c.act.new.self c.in_ok-flow.flow (search rules) c.input-input.ensures refl c.in_ok-flow.ensures
 
-pub returns : goal.returns
-returns c = record {
-  turns =
-      ap goes c.onward.ensures.state
-      ∙ follow_to (length c.args.code.now) (state_of c.args.self.now c.args.outputs.now) c.in-Some.flow (held_of c.act.new.self) c.distance.result (Some c.in-Some-target.to) c.in_default-flow.not-Ends (search rules) c.distance.ensures c.in-Some-target.ensures
-      ∙ worked (goal.at.returns c).In-Some;
-  rest = let o = c.onward.ensures.rest in record { more = o.more; within = o.within; rest = o.rest };
-}
+pub returns-clause-turns : goal.returns-clause-turns
+returns-clause-turns c =
+    ap goes c.onward.ensures.state
+    ∙ lands_at (length c.args.self.now.code.now) (state_of c.args.self.now) c.in_ok-flow.flow c.act.new.self c.distance.result (Some c.in_ok-to.to) (search rules) c.distance.ensures (sym c.in_ok-to.ensures.ok_part ∙ c.target.ensures)
+    ∙ worked (goal.at.returns-clause-turns c).In_ok-flow

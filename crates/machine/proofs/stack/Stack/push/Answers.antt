@@ -3,4 +3,4 @@ use Rattle.machine.proofs.Stacks.{pushed-below}
 use Rattle.machine.proofs.stack.Stack.push.Goals as goal
 
 pub returns : goal.returns
-returns c = pushed-below c.args.self.now.items c.args.self.now.height c.args.value (omega arith) (search rules)
+returns c = rw (← c.self.view_is) (pushed-below c.self.inside.items c.self.inside.height c.args.value (omega arith) (search rules))
