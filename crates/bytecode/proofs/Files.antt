@@ -61,7 +61,7 @@ module _ (f : List ℕ) (n : ℕ) (words : List Word) (framed : Framed f n) (byt
       let two = be16_of (check (take m f)) (get_or f m 0) (get_or f (m + 1) 0) e (bytes m) (bytes (m + 1)) in
       ap (λ b. b ++ be16 (check b)) body_is ∙ ap (λ l. take m f ++ l) (two ∙ sym last) ∙ take-append-drop m f
 
-joined_long : (words : List Word) → length (flat_map encoded words) ≡ 6 * length words
+pub joined_long : (words : List Word) → length (flat_map encoded words) ≡ 6 * length words
 joined_long [] = refl
 joined_long (w ∷ words) = let e = joined_long words in simp length-append (omega arith)
 

@@ -99,7 +99,7 @@ in_range_at : (u : TheUnit) (k : ℕ) → k < u.len → in_range (row (get_or u.
 in_range_at u k h = (and_parts (in_range (row (get_or u.code k Nop)).operands) (standing u.locals k u.len (get_or u.code k Nop)) (u.rules k h)).0
 
 -- the bytes tell the instruction
-one_instr : (i j : Instr) → in_range (row i).operands ≡ true → in_range (row j).operands ≡ true → encoded (word i) ≡ encoded (word j) → i ≡ j
+pub one_instr : (i j : Instr) → in_range (row i).operands ≡ true → in_range (row j).operands ≡ true → encoded (word i) ≡ encoded (word j) → i ≡ j
 one_instr i j s t e = word_one i j (encoded_one (word i) (word j) (arg_fits (row i).operands s) (arg_fits (row j).operands t) e)
 
 one_unit : (u v : TheUnit) → bytes_of u ≡ bytes_of v → u ≡ v

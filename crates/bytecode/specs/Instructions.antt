@@ -85,6 +85,7 @@ abbrev pub inside : ℕ → ℤ → Option ℕ
 inside n (pos p) = cond (nat_lt p n) (Some p) None
 inside n (negsuc p) = None
 
+-- numbers and no `Site`, as in all that follows: what is said of units has no interpreter's or reader's type in it
 -- operands that may stand at place p of n in a unit of L locals: the local is one of them, and the jump leads to a place
 abbrev pub fitting : ℕ → ℕ → ℕ → Operands → Bool
 fitting L p n bare = true

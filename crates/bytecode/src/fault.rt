@@ -3,6 +3,7 @@ ghost use Rattle.std.specs.Prelude.{◌≡◌};
 ghost use Rattle.bytecode.specs.Faults.{short_number, read_number, read_place};
 ghost use Rattle.bytecode.specs.declared.fault.ReadFault.TheVariants.{File, Unit as InUnit};
 
+use std::error::Error;
 use std::fmt;
 
 /// The file as a whole is wrong.
@@ -68,6 +69,7 @@ impl ReadFault {
     }
 
     /// The place that is named, 0 where none is.
+    // No `Option`: with each refusal a place is told.
     pub fn place(&self) -> usize
         ensures { result ≡ read_place self.now }
     {
@@ -94,6 +96,9 @@ impl fmt::Display for ReadFault {
     }
 }
 
+impl Error for ReadFault {}
+
+// A table of its own: nothing takes any refusal, so no trait has both.
 impl TooShort {
     /// The refusal number.
     pub fn number(&self) -> u8

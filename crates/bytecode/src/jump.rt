@@ -6,6 +6,5 @@ ghost use Rattle.bytecode.specs.Instructions.{inside};
 pub fn target(place: usize, by: i32, len: usize) -> Option<usize>
     ensures { result ≡ inside len (pos place +ℤ by) }
 {
-    let to = place.checked_add_signed(by as isize)?;
-    if to < len { Some(to) } else { None }
+    place.checked_add_signed(by as isize).filter(|to| *to < len)
 }

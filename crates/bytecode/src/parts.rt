@@ -3,6 +3,7 @@ ghost use Rattle.std.specs.Prelude.{◌≡◌, ◌+◌, ◌/◌, ◌^◌, ◌<�
 ghost use Rattle.std.specs.Iterator.{at_most};
 
 /// Hands out the bytes that are left six at a time, each part with its place; fewer are not handed out.
+// A cursor and no `as_chunks`: bytes are taken from a file in this one place, each part with its place.
 #[derive(Drop)]
 pub struct Parts<'a> {
     rest: &'a [u8],

@@ -1,5 +1,5 @@
 //! Which instructions the machine has, and where each may stand.
-ghost use Rattle.std.specs.Prelude.{◌≡◌, ℕ, ◌<◌, pos, MatchOption, MatchResult, ◌≢◌};
+ghost use Rattle.std.specs.Prelude.{◌≡◌, ℕ, ◌<◌, pos, MatchResult, ◌≢◌};
 ghost use Rattle.bytecode.specs.Instructions.{row, IsBare, standing, Spells, SpellsNone};
 
 use crate::instr::Instr;
@@ -7,39 +7,42 @@ use crate::jump::target;
 use crate::site::Site;
 use crate::word::Word;
 
+/// The machine has no instruction with this number, drop count and argument.
+#[derive(Clone, Copy, PartialEq, Eq, Debug)]
+pub struct NoSuchInstr;
+
 /// The instruction of this number among those without operands.
-fn without_operands(op: u8) -> Option<Instr>
-    ensures { MatchOption result ((i : Instr) → IsBare op i → ⊥) (IsBare op) }
+fn without_operands(op: u8) -> Result<Instr, NoSuchInstr>
+    ensures { MatchResult result (IsBare op) (λ _. (i : Instr) → IsBare op i → ⊥) }
 {
     match op {
-        0 => Some(Instr::Nop),
-        1 => Some(Instr::Halt),
-        4 => Some(Instr::Pop),
-        5 => Some(Instr::Dup),
-        6 => Some(Instr::Swap),
-        9 => Some(Instr::Add),
-        10 => Some(Instr::Sub),
-        11 => Some(Instr::Mul),
-        12 => Some(Instr::Div),
-        13 => Some(Instr::Eq),
-        14 => Some(Instr::Lt),
-        15 => Some(Instr::Not),
-        19 => Some(Instr::In),
-        20 => Some(Instr::Out),
-        _ => None,
+        0 => Ok(Instr::Nop),
+        1 => Ok(Instr::Halt),
+        4 => Ok(Instr::Pop),
+        5 => Ok(Instr::Dup),
+        6 => Ok(Instr::Swap),
+        9 => Ok(Instr::Add),
+        10 => Ok(Instr::Sub),
+        11 => Ok(Instr::Mul),
+        12 => Ok(Instr::Div),
+        13 => Ok(Instr::Eq),
+        14 => Ok(Instr::Lt),
+        15 => Ok(Instr::Not),
+        19 => Ok(Instr::In),
+        20 => Ok(Instr::Out),
+        _ => Err(NoSuchInstr),
     }
 }
 
 /// The local that an argument names, one of 16.
-fn local(arg: i32) -> Option<u8>
-    ensures { MatchOption result ((x : ℕ) → x < 16 → pos x ≢ arg) (λ x. (x < 16) × (pos x ≡ arg)) }
+fn local(arg: i32) -> Result<u8, NoSuchInstr>
+    ensures { MatchResult result (λ x. (x < 16) × (pos x ≡ arg)) (λ _. (x : ℕ) → x < 16 → pos x ≢ arg) }
 {
-    u8::try_from(arg).ok().filter(|local| *local < 16)
+    u8::try_from(arg)
+        .ok()
+        .filter(|local| *local < 16)
+        .ok_or(NoSuchInstr)
 }
-
-/// The machine has no instruction with this number, drop count and argument.
-#[derive(Clone, Copy, PartialEq, Eq, Debug)]
-pub struct NoSuchInstr;
 
 impl TryFrom<Word> for Instr {
     type Error = NoSuchInstr;
@@ -55,12 +58,12 @@ impl TryFrom<Word> for Instr {
                 value: false,
             }),
             (3, 0..=2, 1) => Ok(Instr::LitFlag { drops, value: true }),
-            (7, 0, arg) => Ok(Instr::Load(local(arg).ok_or(NoSuchInstr)?)),
-            (8, 0, arg) => Ok(Instr::Store(local(arg).ok_or(NoSuchInstr)?)),
+            (7, 0, arg) => Ok(Instr::Load(local(arg)?)),
+            (8, 0, arg) => Ok(Instr::Store(local(arg)?)),
             (16, 0, by) => Ok(Instr::Jmp(by)),
             (17, 0, by) => Ok(Instr::Jf(by)),
             (18, 0, by) => Ok(Instr::DropJmp(by)),
-            (op, 0, 0) => without_operands(op).ok_or(NoSuchInstr),
+            (op, 0, 0) => without_operands(op),
             _ => Err(NoSuchInstr),
         }
     }

@@ -8,7 +8,7 @@ use std::test::Fail;
 const HALT: [u8; 12] = [1, 0, 0, 1, 1, 0, 0, 0, 0, 0, 0, 3];
 
 /// The refusal number of a file and the place that it names; 0 and 0 where it is accepted.
-// Numbers, since they are what is told of a refusal.
+// Numbers, since they are what is told of a refusal, and the tests keep them.
 fn judged(file: &[u8]) -> (u8, usize) {
     match read(file) {
         Ok(_) => (0, 0),

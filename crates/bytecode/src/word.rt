@@ -70,7 +70,7 @@ impl From<Word> for [u8; 6] {
 }
 
 /// Equal words are those of equal instructions.
-// By hand: a derived `==` has no clause, and this one promises that it decides equality.
+// By hand: of a derived `==` no clause here would promise that it decides equality.
 impl PartialEq for Instr {
     ghost eq = { same_instr };
 

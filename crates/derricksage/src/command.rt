@@ -100,6 +100,7 @@ pub fn parse(heap: Global, words: &[String]) -> Result<Command<'_>, Error<'_>> {
 
 /// The error of a command whose operands are not those of its usage.
 fn wrong_words(name: &str) -> Error<'_> {
+    // No `map_or`: a passed function whose result names a lifetime is not covered.
     match USAGES.iter().find(|usage| usage.name == name) {
         Some(usage) => Error::WrongWords(usage),
         None => Error::UnknownCommand(name),

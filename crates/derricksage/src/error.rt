@@ -35,6 +35,7 @@ pub struct TextFault {
 }
 
 /// Why a command fails.
+// No `anyhow::Error`: its line begins with the file that is at fault, or with the program.
 #[derive(Debug, Drop, thiserror::Error)]
 pub enum Error<'a> {
     #[error("derricksage: no command is named {0:?}; try \"derricksage help\"")]

@@ -1,5 +1,5 @@
 //! A listing's text to the locals and words that it says.
-ghost use Rattle.std.specs.Prelude.{◌≡◌, ◌==◌, ◌+◌, OnOk, OnErr, vec_len};
+ghost use Rattle.std.specs.Prelude.{◌≡◌, ◌==◌, [], ◌∷◌, ◌++◌, OnOk, OnErr};
 ghost use Rattle.std.specs.List.{before_first};
 
 use crate::error::{LineFault, TextFault};
@@ -61,7 +61,7 @@ fn locals_line(heap: Global, code: &str) -> Result<u8, LineFault> {
 
 /// Adds the word of the next instruction line.
 fn add_instruction(heap: Global, words: &mut Vec<Word>, code: &str) -> Result<(), LineFault>
-    ensures ok { OnOk result (vec_len words.new ≡ vec_len words.old + 1) }
+    ensures ok { OnOk result ((word : Word) × (words.new.items ≡ words.old.items ++ word ∷ [])) }
     ensures err { OnErr result (words.new.items ≡ words.old.items) }
 {
     let word = instruction(heap, after_place(code, words.len())?)?;
@@ -94,7 +94,6 @@ fn instruction(heap: Global, code: &str) -> Result<Word, LineFault> {
         (Operands::Local | Operands::Displacement, [arg]) => (0, number(heap, arg)?),
         _ => return Err(LineFault::WrongOperands(mnemonic)),
     };
-    // A row of the table stands at its number in the unit file.
     Ok(Word {
         op: op as u8,
         drops,

@@ -13,14 +13,15 @@ use crate::error::Error;
 use crate::perform::perform;
 use std::env;
 use std::process::ExitCode;
+use std::rt::Env;
 
 /// The words after the program's name.
-fn words(rt: &HostRuntime) -> Result<Vec<String>, Error<'static>> {
+fn words(rt: &(impl Env + AllocGlobal)) -> Result<Vec<String>, Error<'static>> {
     Ok(env::args(rt)?.skip(1).collect(rt.alloc())?)
 }
 
 /// Says on standard error why the program fails.
-fn fail(rt: &HostRuntime, error: Error<'_>) -> ExitCode {
+fn fail(rt: &impl Eprint, error: Error<'_>) -> ExitCode {
     let _ = eprintln!(rt; "{error}");
     ExitCode::FAILURE
 }

@@ -122,6 +122,7 @@ pub static MNEMONICS: [Mnemonic; 21] = [
     },
 ];
 
+// The row's index: rows stand in the order of the operations' numbers, and any table may be passed.
 /// The number of the operation that has this name in `table`, without regard to case.
 pub fn find(table: &[Mnemonic], name: &str) -> Option<usize>
     ensures { MatchOption result (NoneBefore table.now (length table.now) name.now) (λ op. (op < length table.now) × NamedAt table.now op name.now) }

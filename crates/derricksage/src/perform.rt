@@ -13,10 +13,14 @@ use bytecode::unit::Unit;
 use bytecode::write::{file_length, write_words};
 use machine::run::run;
 use std::alloc::{AllocError, Global};
-use std::fs;
+use std::rt::Files;
+use std::{fs, io};
 
 /// Does what the words after the program's name ask for.
-pub fn perform<'a>(rt: &HostRuntime, words: &'a [String]) -> Result<(), Error<'a>> {
+pub fn perform<'a>(
+    rt: &(impl Files + Print + AllocGlobal),
+    words: &'a [String],
+) -> Result<(), Error<'a>> {
     match command::parse(rt.alloc(), words)? {
         Command::Help => {
             print!(rt; "{}", HelpText)?;
@@ -34,16 +38,20 @@ pub fn perform<'a>(rt: &HostRuntime, words: &'a [String]) -> Result<(), Error<'a
 }
 
 /// Makes the unit file of a listing.
-fn assemble<'a>(rt: &HostRuntime, listing: &'a str, file: &'a str) -> Result<(), Error<'a>> {
+fn assemble<'a>(
+    rt: &(impl Files + Print + AllocGlobal),
+    listing: &'a str,
+    file: &'a str,
+) -> Result<(), Error<'a>> {
     let listing = read_listing(rt, listing)?;
     let bytes = file_of(rt.alloc(), &listing)?;
-    fs::write(rt, file, bytes.as_slice()).map_err(|error| Error::File { name: file, error })?;
+    in_file(file, fs::write(rt, file, bytes.as_slice()))?;
     println!(rt; "{} bytes", bytes.len())?;
     Ok(())
 }
 
 /// Prints the listing of a unit file.
-fn show<'a>(rt: &HostRuntime, file: &'a str) -> Result<(), Error<'a>> {
+fn show<'a>(rt: &(impl Files + Print + AllocGlobal), file: &'a str) -> Result<(), Error<'a>> {
     let unit = read_unit(rt, file)?;
     let listing = UnitListing { unit: &unit };
     print!(rt; "{listing}")?;
@@ -52,7 +60,7 @@ fn show<'a>(rt: &HostRuntime, file: &'a str) -> Result<(), Error<'a>> {
 
 /// Runs a unit file, and prints how the run ended.
 fn run_once<'a>(
-    rt: &HostRuntime,
+    rt: &(impl Files + Print + AllocGlobal),
     file: &'a str,
     budget: u32,
     room: usize,
@@ -70,15 +78,20 @@ fn run_once<'a>(
     Ok(())
 }
 
+/// What the system did with the file of this name.
+fn in_file<T>(name: &str, done: io::Result<T>) -> Result<T, Error<'_>> {
+    done.map_err(|error| Error::File { name, error })
+}
+
 /// The listing in the file of this name.
-fn read_listing<'a>(rt: &HostRuntime, name: &'a str) -> Result<Listing, Error<'a>> {
-    let text = fs::read_to_string(rt, name).map_err(|error| Error::File { name, error })?;
+fn read_listing<'a>(rt: &(impl Files + AllocGlobal), name: &'a str) -> Result<Listing, Error<'a>> {
+    let text = in_file(name, fs::read_to_string(rt, name))?;
     listing::parse(rt.alloc(), text.as_str()).map_err(|fault| Error::Listing { name, fault })
 }
 
 /// The unit in the file of this name.
-fn read_unit<'a>(rt: &HostRuntime, name: &'a str) -> Result<Unit, Error<'a>> {
-    let bytes = fs::read(rt, name).map_err(|error| Error::File { name, error })?;
+fn read_unit<'a>(rt: &(impl Files + AllocGlobal), name: &'a str) -> Result<Unit, Error<'a>> {
+    let bytes = in_file(name, fs::read(rt, name))?;
     read(bytes.as_slice()).map_err(|fault| Error::Refused { name, fault })
 }
 

@@ -32,7 +32,7 @@ impl fmt::Display for UnitListing<'_> {
     fn fmt<W: fmt::Write>(&self, f: &mut fmt::Formatter<W>) -> fmt::Result {
         let unit = self.unit;
         writeln!(f, "locals {}", unit.locals)?;
-        for (place, &instr) in unit.code[..unit.len].iter().enumerate() {
+        for (place, &instr) in unit.instructions().iter().enumerate() {
             let line = Line {
                 place,
                 instr,

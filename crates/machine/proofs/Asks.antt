@@ -10,7 +10,7 @@ use Rattle.machine.specs.declared.arith.Binary.TheVariants as B
 use Rattle.machine.specs.declared.flow.Flow.{Flow}
 use Rattle.machine.specs.declared.flow.Flow.TheVariants.{Next, Jump, Read, Write}
 use Rattle.machine.specs.declared.ending.Ending.TheVariants.{Full, Stuck}
-use Rattle.machine.specs.declared.stack.Inapplicable.{Inapplicable}
+use Rattle.machine.specs.declared.ending.Inapplicable.{Inapplicable}
 use Rattle.machine.specs.declared.memory.Memory.{Memory}
 use Rattle.machine.specs.Machine.{operate}
 use Rattle.machine.specs.Stack.{inapplicable, popped, pushed, popped_as, as_number, as_flag, dropped_by}

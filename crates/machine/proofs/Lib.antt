@@ -3,6 +3,7 @@ pub mod Numbers
 pub mod Rows
 pub mod Asks
 pub mod Arrivals
+pub mod Entries
 pub mod Turns
 pub mod Runs
 pub mod Lockstep

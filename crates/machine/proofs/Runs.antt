@@ -65,11 +65,15 @@ drop_later m n xs ys le e =
     let h : n ≡ m + (n - m) = omega arith in
     ap (λ k. drop k xs) h ∙ sym (drop-drop (n - m) m xs) ∙ ap (drop (n - m)) e ∙ drop-drop (n - m) m ys ∙ ap (λ k. drop k ys) (sym h)
 
+-- a step leaves the buffer past its outputs, which was b₀ at the start
+pub past_more : (m m' : Progress) (b₀ : List ℤ) → Onward m m' → drop m.written m.outputs.now ≡ drop m.written b₀ → drop m'.written m'.outputs.now ≡ drop m'.written b₀
+past_more m m' b₀ on past = on.past ∙ drop_later m.written m'.written m.outputs.now b₀ on.more past
+
 pub onward_trans : (m m' m'' : Progress) → Onward m m' → Onward m' m'' → Onward m m''
 onward_trans m m' m'' f g = record {
   code = g.code ∙ f.code;
   inputs = g.inputs ∙ f.inputs;
   room = g.room ∙ f.room;
   more = let h = f.more in let k = g.more in omega arith;
-  past = g.past ∙ drop_later m'.written m''.written m'.outputs.now m.outputs.now g.more f.past;
+  past = past_more m' m'' m.outputs.now g f.past;
 }

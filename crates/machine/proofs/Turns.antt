@@ -1,19 +1,16 @@
 -- One turn of the machine, as the interpreter takes it.
-use Rattle.std.proofs.Common.{◌≡◌, ℕ, ◌^◌, ◌<◌, ◌≤◌, Bool, ltb, List, length, ℤ, pos, ◌+ℤ◌, Some, None, Option, Ok, sym, refl, ap, ◌∙◌, subst, arith, w32, SFits, to_z, of_z}
+use Rattle.std.proofs.Common.{◌≡◌, ℕ, ◌^◌, ◌<◌, ◌≤◌, Bool, ltb, List, length, ℤ, Some, None, Option, Ok, sym, refl, subst, arith}
 use Rattle.std.specs.List.{slice_get}
-use Rattle.std.proofs.lemmas.List.{length-take-le}
-use Rattle.std.proofs.lemmas.Int.{to_z-of_z}
 use Rattle.std.proofs.lemmas.Bool.{le-leb, ltb-true}
 use Rattle.std.proofs.lemmas.Option.{slice_get_within}
 use Rattle.bytecode.specs.declared.instr.Instr.{Instr}
-use Rattle.bytecode.specs.Instructions.{inside}
 use Rattle.machine.specs.declared.memory.Memory.{Memory}
 use Rattle.machine.specs.declared.flow.Flow.{Flow}
 use Rattle.machine.specs.declared.flow.Flow.TheVariants.{Next, Jump, Read, Write}
 use Rattle.machine.specs.declared.progress.Progress.{Progress}
 use Rattle.machine.specs.Machine.{State, turn_at, turn}
-use Rattle.machine.specs.Interpreter.{Acted, act, shift, landed, acted, stepped_at, stepped}
-use Rattle.machine.specs.Views.{outputs_of, state_of, room_of, step_of, Able}
+use Rattle.machine.specs.Interpreter.{act, stepped_at, stepped}
+use Rattle.machine.specs.Views.{room_of, Able}
 use Rattle.machine.proofs.Rows.{agree}
 use Rattle.machine.proofs.Asks.{Asks, Good, Good-act}
 
@@ -24,16 +21,6 @@ stepped-turn code inputs room s few = go (slice_get code s.place)
     go : (o : Option Instr) → stepped_at (length code) inputs room s o ≡ turn_at (length code) inputs room s o
     go None = refl
     go (Some i) = sym (agree i (length code) s (slice_get inputs s.used) (ltb (length s.outputs) room) (le-leb (length s.stack) 8 few))
-
--- the instruction i is at the place, and r is what it does
-pub step_in : (m : Progress) (i : Instr) (input : Option ℤ) (room : Bool) (r : Acted) → slice_get m.code.now m.place ≡ Some i → input ≡ slice_get m.inputs.now m.used → room ≡ ltb m.written (room_of m) → r ≡ act i input room m.memory → acted (length m.code.now) (state_of m) r ≡ step_of m
-step_in m i input room r at ei eo er =
-    let w : length (outputs_of m) ≡ m.written = length-take-le m.written m.outputs.now m.within in
-    rw (at, w, ← ei, ← eo, er)
-
--- the run goes on by z, to o
-pub lands_at : (n : ℕ) (s : State) (f : Flow) (h : Memory) (z : ℤ) (o : Option ℕ) → SFits w32 z → z ≡ shift f → o ≡ inside n (pos s.place +ℤ to_z w32 (of_z w32 z)) → landed s f h o ≡ acted n s (Ok (f, h))
-lands_at n s f h z o fits ez eo = ap (landed s f h) (eo ∙ ap (λ x. inside n (pos s.place +ℤ x)) (to_z-of_z w32 z fits ∙ ez))
 
 asks_able : (f : Flow) (m : Progress) → length m.inputs.now < 2 ^ 63 → Asks f (slice_get m.inputs.now m.used) (ltb m.written (room_of m)) → Able f m.used m.written (room_of m)
 asks_able Next m lt a = tt

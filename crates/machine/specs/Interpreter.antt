@@ -13,7 +13,7 @@ use Rattle.machine.specs.declared.flow.Flow.{Flow}
 use Rattle.machine.specs.declared.flow.Flow.TheVariants.{Next, Jump, Read, Write}
 use Rattle.machine.specs.declared.ending.Ending.{Ending}
 use Rattle.machine.specs.declared.ending.Ending.TheVariants.{Halted, Trapped, Dry, Full, Stuck}
-use Rattle.machine.specs.declared.stack.Inapplicable.{Inapplicable}
+use Rattle.machine.specs.declared.ending.Inapplicable.{Inapplicable}
 use Rattle.machine.specs.declared.memory.Memory.{Memory}
 use Rattle.machine.specs.Stack.{inapplicable, popped, pushed, dropped_by, as_number, as_flag, popped_as}
 use Rattle.machine.specs.Machine.{State, Turn, ends, goes, operate}

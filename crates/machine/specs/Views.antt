@@ -34,6 +34,8 @@ answer_of m e k = record { ending = e; place = m.place; steps = k; used = m.used
 
 -- all that is shown is as it was
 pub record Same (m m' : Progress) : Type 0 where
+  pub code : m'.code.now ≡ m.code.now
+  pub inputs : m'.inputs.now ≡ m.inputs.now
   pub place : m'.place ≡ m.place
   pub used : m'.used ≡ m.used
   pub outputs : m'.outputs.now ≡ m.outputs.now

@@ -48,10 +48,12 @@ impl Memory {
     fn load(&mut self, local: u8) -> Result<Flow, Ending>
         ensures { gives result self.new ≡ loaded local self.old }
     {
-        if local >= 16 {
-            return Err(Ending::Stuck);
-        }
-        let value = self.locals[local as usize].ok_or(Ending::Stuck)?;
+        let value = self
+            .locals
+            .get(usize::from(local))
+            .copied()
+            .flatten()
+            .ok_or(Ending::Stuck)?;
         self.stack.push(value)?;
         Ok(Flow::Next)
     }
@@ -100,8 +102,10 @@ impl Memory {
         ensures { gives result self.new ≡ taken input self.old }
     {
         self.stack.push(Value::Num(input.unwrap_or(0)))?;
-        input.ok_or(Ending::Dry)?;
-        Ok(Flow::Read)
+        match input {
+            Some(_) => Ok(Flow::Read),
+            None => Err(Ending::Dry),
+        }
     }
 
     fn write(&mut self, room: bool) -> Result<Flow, Ending>

@@ -1,7 +1,6 @@
 //! A run in progress.
 ghost use Rattle.std.specs.Prelude.{◌≡◌, ◌≤◌, length};
 ghost use Rattle.std.specs.List.{slice_get};
-ghost use Rattle.machine.specs.Interpreter.{shift};
 
 use crate::answer::Answer;
 use crate::ending::Ending;
@@ -24,21 +23,12 @@ pub struct Progress<'a> {
     ghost within: { written ≤ length outputs.now },
 }
 
-/// How far the run goes from the instruction's own place.
-fn distance(flow: Flow) -> i32
-    ensures { result ≡ shift flow }
-{
-    match flow {
-        Flow::Jump(by) => by,
-        _ => 1,
-    }
-}
-
 impl<'a> Progress<'a> {
     ghost use Rattle.machine.specs.Machine.{start};
     ghost use Rattle.machine.specs.Interpreter.{moved, turned};
     ghost use Rattle.machine.specs.Views.{state_of, step_of, answer_of, Begins, Kept, Onward, Able};
 
+    // `same_reference`, here and below: a type cannot keep whose loan it holds, so each call says it.
     pub fn new(code: &'a [Instr], inputs: &'a [i32], outputs: &'a mut [i32]) -> Progress<'a>
         ensures same_reference { result.outputs.ghost_name ≡ outputs.entry.ghost_name }
         ensures begins { Begins code.now inputs.now outputs.old result }
@@ -96,7 +86,7 @@ impl<'a> Progress<'a> {
         let input = self.input();
         let room = self.written < self.outputs.len();
         let flow = self.memory.act(instr, input, room)?;
-        let to = target(self.place, distance(flow), self.code.len()).ok_or(Ending::Stuck)?;
+        let to = target(self.place, flow.distance(), self.code.len()).ok_or(Ending::Stuck)?;
         self.onward(flow, to);
         Ok(())
     }

@@ -28,5 +28,5 @@ pub fn run(unit: &Unit, inputs: &[i32], outputs: &mut [i32], budget: u32) -> Ans
     ensures { Answers (whole_run (held unit.now) inputs.now (length outputs.old) budget) result
         outputs.old outputs.new }
 {
-    run_code(&unit.code[0..unit.len], inputs, outputs, budget)
+    run_code(unit.instructions(), inputs, outputs, budget)
 }

@@ -2,6 +2,7 @@
 ghost use Rattle.std.specs.Prelude.{◌≡◌, []};
 ghost use Rattle.machine.specs.Stack.{gives, popped, pushed, dropped_by};
 
+use crate::ending::Inapplicable;
 use crate::value::Value;
 use std::marker::Model;
 
@@ -25,10 +26,6 @@ impl Model for Stack {
 
     ghost invariant = { λ s. s.height ≤ 8 };
 }
-
-/// The stack has not the values that are asked of it, or no room for one more.
-#[derive(Clone, Copy, PartialEq, Eq, Debug)]
-pub struct Inapplicable;
 
 impl Stack {
     // No derived `Default`, here and in what holds a stack: it has no clause, and a value has no default.
