@@ -1,0 +1,8 @@
+pub mod Order
+pub mod Gather
+pub mod Potential
+pub mod Between
+pub mod Running
+pub mod Spreading
+pub mod Masks
+pub mod Queues

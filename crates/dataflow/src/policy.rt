@@ -1,0 +1,21 @@
+//! Pick policies: which pending node is taken next.
+ghost use Rattle.std.specs.Prelude.{ℕ, Bool};
+ghost use Rattle.dataflow.specs.Pending.{IsEmpty, Adds, Takes};
+
+/// A set of pending nodes, each from 0 to 127.
+pub trait Policy {
+    // The set.
+    ghost pending: { Self → ℕ → Bool };
+
+    /// Empties the set.
+    fn clear(&mut self)
+        ensures { IsEmpty (pending self.new) };
+
+    /// Puts a node in, and leaves a pending one; answers no, and leaves the set, for a node above 127.
+    fn add(&mut self, node: usize) -> bool
+        ensures { Adds node (pending self.old) (pending self.new) result };
+
+    /// Removes a member, any; none exactly when the set is empty.
+    fn take(&mut self) -> Option<usize>
+        ensures { Takes (pending self.old) (pending self.new) result };
+}
