@@ -15,6 +15,7 @@ use Rattle.bytecode.specs.declared.unit.Unit.{Unit as TheUnit}
 use Rattle.bytecode.specs.Instructions.{row, word, in_range, standing}
 use Rattle.bytecode.specs.Layout.{encoded, body, file, part}
 use Rattle.bytecode.specs.Files.{held, bytes_of, Sized, Framed, FileGets, CodeRead, Good, LowestBad, Gets, Outcome, Only, Written, WritesBack, ReadsBack, WriteOutcome}
+use Rattle.bytecode.proofs.Held.{length-held}
 use Rattle.bytecode.proofs.Words.{arg_fits, encoded_one, word_one}
 use Rattle.bytecode.proofs.Files.{file_long, file-part, file_summed, whole_file}
 
@@ -22,9 +23,6 @@ use Rattle.bytecode.proofs.Files.{file_long, file-part, file_summed, whole_file}
 same_unit : (u v : TheUnit) → u.locals ≡ v.locals → u.len ≡ v.len → u.code ≡ v.code → u ≡ v
 same_unit u v a b c =
     λ i. struct.make (a i, (b i, (c i, tt))) (is_prop→PathP (λ j. the_ghost (a j, (b j, (c j, tt)))) (λ j. the_propositions the_row.coded (a j, (b j, (c j, tt)))) (struct.ghosts u) (struct.ghosts v) i)
-
-pub length-held : (u : TheUnit) → length (held u) ≡ u.len
-length-held u = length-take-le u.len u.code (rw u.whole u.most)
 
 words_long : (u : TheUnit) → length (map word (held u)) ≡ u.len
 words_long u = length-map (held u) word ∙ length-held u

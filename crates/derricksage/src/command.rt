@@ -13,7 +13,7 @@ pub enum Command<'a> {
         listing: &'a str,
         file: &'a str,
     },
-    /// The listing of a unit file.
+    /// The listing of a unit file, with the facts at each place.
     Show {
         file: &'a str,
     },
@@ -44,7 +44,7 @@ static USAGES: [Usage; 4] = [
     Usage {
         name: "show",
         words: "show FILE",
-        purpose: "the listing of a unit file",
+        purpose: "the listing of a unit file, with the facts at each place",
     },
     Usage {
         name: "run",

@@ -1,7 +1,10 @@
 //! Why a command fails. Each error prints as one line: it begins with the file's name where a file is at fault, else with the program's.
 use crate::command::Usage;
 use crate::mnemonic::Mnemonic;
+use analyses::verify::VerifierFault;
 use bytecode::fault::ReadFault;
+use facts::cell::TypeCell;
+use facts::frame::Frame;
 use std::alloc::AllocError;
 use std::io;
 
@@ -63,6 +66,13 @@ pub enum Error<'a> {
     Refused {
         name: &'a str,
         fault: ReadFault,
+    },
+    /// What the verifier says of a unit, and the type frame at the place that it names.
+    #[error("{name}: {fault}, types {frame}")]
+    Unverified {
+        name: &'a str,
+        fault: VerifierFault,
+        frame: Frame<TypeCell>,
     },
     /// The arguments or the standard output fail.
     #[error("derricksage: {0}")]

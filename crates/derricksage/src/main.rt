@@ -3,6 +3,7 @@
 
 mod command;
 mod error;
+mod known;
 mod listing;
 mod mnemonic;
 mod number;

@@ -4,6 +4,7 @@ ghost use Rattle.bytecode.specs.Layout.{file};
 
 use crate::command::{Command, HelpText};
 use crate::error::Error;
+use crate::known::Known;
 use crate::listing::Listing;
 use crate::print::{RunLine, UnitListing};
 use crate::{command, listing};
@@ -50,10 +51,14 @@ fn assemble<'a>(
     Ok(())
 }
 
-/// Prints the listing of a unit file.
+/// Prints the listing of a unit file with the facts at each place.
 fn show<'a>(rt: &(impl Files + Print + AllocGlobal), file: &'a str) -> Result<(), Error<'a>> {
     let unit = read_unit(rt, file)?;
-    let listing = UnitListing { unit: &unit };
+    let known = Known::of(file, &unit)?;
+    let listing = UnitListing {
+        unit: &unit,
+        known: &known,
+    };
     print!(rt; "{listing}")?;
     Ok(())
 }

@@ -1,16 +1,21 @@
 //! How units and runs are printed.
+ghost use Rattle.std.specs.Prelude.{◌<◌};
+
+use crate::known::Known;
 use crate::mnemonic::{MNEMONICS, Mnemonic, Operands};
 use bytecode::instr::Instr;
 use bytecode::jump::target;
 use bytecode::unit::Unit;
 use bytecode::word::Word;
+use facts::live::LiveSet;
 use machine::answer::Answer;
 use std::fmt;
 
-/// A unit as a listing.
+/// A unit as a listing, with what is known at each place.
 #[derive(Clone, Copy)]
 pub struct UnitListing<'a> {
     pub unit: &'a Unit,
+    pub known: &'a Known,
 }
 
 /// An instruction as a line of a listing of `len` instructions.
@@ -19,6 +24,14 @@ struct Line {
     place: usize,
     instr: Instr,
     len: usize,
+}
+
+/// What is known at a place, as three lines of comments.
+#[derive(Clone, Copy)]
+struct Remarks<'a> {
+    known: &'a Known,
+    place: usize,
+    ghost inside: { place < 128 },
 }
 
 /// How a run ended, and the outputs that it wrote.
@@ -38,7 +51,12 @@ impl fmt::Display for UnitListing<'_> {
                 instr,
                 len: unit.len,
             };
+            let remarks = Remarks {
+                known: self.known,
+                place,
+            };
             writeln!(f, "{line}")?;
+            write!(f, "{remarks}")?;
         }
         Ok(())
     }
@@ -57,6 +75,24 @@ impl fmt::Display for Line {
                 Some(to) => write!(f, " {arg} ; to {to}"),
                 None => write!(f, " {arg}"),
             },
+        }
+    }
+}
+
+impl fmt::Display for Remarks<'_> {
+    fn fmt<W: fmt::Write>(&self, f: &mut fmt::Formatter<W>) -> fmt::Result {
+        let Known {
+            types,
+            constants,
+            live,
+        } = self.known;
+        let live = live[self.place];
+        writeln!(f, ";  types {}", types[self.place])?;
+        writeln!(f, ";  constants {}", constants[self.place])?;
+        if live.same(LiveSet::new()) {
+            writeln!(f, ";  live")
+        } else {
+            writeln!(f, ";  live {live}")
         }
     }
 }

@@ -1,0 +1,72 @@
+//! Constant frames as an analysis, forward.
+
+use crate::graph::Graph;
+use dataflow::analysis::Analysis;
+use facts::cell::ConstCell;
+use facts::constants::carry_constants;
+use facts::frame::Frame;
+
+/// Before each place, which values are known.
+pub struct Constants;
+
+impl Analysis for Constants {
+    ghost use Rattle.facts.specs.Frames.{Fitting};
+    ghost use Rattle.analyses.specs.Frameworks.{constants_of};
+    ghost use Rattle.analyses.specs.Lawful.{constants_lawful};
+
+    type Code = Graph;
+
+    type Fact = Frame<ConstCell>;
+
+    ghost valid = { λ unit. Fitting };
+
+    ghost meaning = { constants_of };
+
+    ghost lawful = { constants_lawful };
+
+    fn nodes(graph: &Graph) -> usize {
+        graph.unit().len
+    }
+
+    fn edge_count(graph: &Graph) -> usize {
+        graph.edge_count()
+    }
+
+    fn edge(graph: &Graph, edge: usize) -> (usize, usize) {
+        let edge = graph.edge(edge);
+        (edge.start, edge.end)
+    }
+
+    fn seed(_graph: &Graph, node: usize) -> Frame<ConstCell> {
+        if node == 0 {
+            Frame::entry()
+        } else {
+            Frame::Unreached
+        }
+    }
+
+    fn least(_graph: &Graph) -> Frame<ConstCell> {
+        Frame::Unreached
+    }
+
+    fn join(_graph: &Graph, a: Frame<ConstCell>, b: Frame<ConstCell>) -> Frame<ConstCell> {
+        a.join(&b)
+    }
+
+    fn same(_graph: &Graph, a: Frame<ConstCell>, b: Frame<ConstCell>) -> bool {
+        a.same(&b)
+    }
+
+    fn carry(graph: &Graph, edge: usize, fact: Frame<ConstCell>) -> Frame<ConstCell> {
+        let edge = graph.edge(edge);
+        carry_constants(graph.instr(edge.start), edge.jump, &fact)
+    }
+
+    fn first_edge(graph: &Graph, node: usize) -> Option<usize> {
+        graph.first_out(node)
+    }
+
+    fn next_edge(graph: &Graph, edge: usize) -> Option<usize> {
+        graph.next_out(edge)
+    }
+}

@@ -1,0 +1,10 @@
+pub mod Below
+pub mod Fields
+pub mod Flats
+pub mod Lattice
+pub mod Order
+pub mod Effects
+pub mod CarryTypes
+pub mod CarryConstants
+pub mod LiveSets
+pub mod AskedKinds

@@ -1,0 +1,11 @@
+pub mod Cell
+pub mod Flat
+pub mod TypeCells
+pub mod ConstCells
+pub mod Held
+pub mod Cells
+pub mod Frames
+pub mod Effects
+pub mod Types
+pub mod Constants
+pub mod Live

@@ -1,0 +1,15 @@
+pub mod Moves
+pub mod Exact
+pub mod Heights
+pub mod Domains
+pub mod Applicable
+pub mod Steps
+pub mod Sizes
+pub mod Ways
+pub mod Above
+pub mod Describing
+pub mod Endings
+pub mod Types
+pub mod Constants
+pub mod LiveRows
+pub mod LiveTurns

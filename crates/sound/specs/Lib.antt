@@ -1,0 +1,3 @@
+pub mod Describes
+pub mod Meaning
+pub mod LiveMeaning
