@@ -20,7 +20,7 @@ use Rattle.bytecode.proofs.Words.{arg_fits, encoded_one, word_one}
 use Rattle.bytecode.proofs.Files.{file_long, file-part, file_summed, whole_file}
 
 -- two units with the same fields are one
-same_unit : (u v : TheUnit) → u.locals ≡ v.locals → u.len ≡ v.len → u.code ≡ v.code → u ≡ v
+pub same_unit : (u v : TheUnit) → u.locals ≡ v.locals → u.len ≡ v.len → u.code ≡ v.code → u ≡ v
 same_unit u v a b c =
     λ i. struct.make (a i, (b i, (c i, tt))) (is_prop→PathP (λ j. the_ghost (a j, (b j, (c j, tt)))) (λ j. the_propositions the_row.coded (a j, (b j, (c j, tt)))) (struct.ghosts u) (struct.ghosts v) i)
 
@@ -110,6 +110,10 @@ one_unit u v e =
     (λ (lt : k < u.len). one_instr _ _ (in_range_at u k lt) (in_range_at v k (omega arith)) (sym (part_at u k lt) ∙ ap (λ l. part l k) e ∙ part_at v k (omega arith)))
     (λ (ge : u.len ≤ k). u.blank k ge (omega (arith, u.whole)) ∙ sym (v.blank k (omega arith) (omega (arith, u.whole))))
     (cases_lt k u.len)))
+
+-- a unit is its locals and its instructions
+pub unit_from_held : (u v : TheUnit) → u.locals ≡ v.locals → held u ≡ held v → u ≡ v
+unit_from_held u v l h = one_unit u v (λ i. file (l i) (map word (h i)))
 
 -- a file has no two answers
 pub one_outcome : (f : List ℕ) (r s : Result TheUnit ReadFault) → Outcome f r → Outcome f s → r ≡ s

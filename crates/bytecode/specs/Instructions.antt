@@ -1,4 +1,4 @@
--- The table of the instructions: number in the file, operands, and whether the next place can follow. Assumes nothing.
+-- The table of the instructions: number in the file, operands, whether the next place can follow, and weight. Assumes nothing.
 use Rattle.std.specs.Prelude.{◌≡◌, ℕ, ◌+◌, Bool, true, false, cond, ◌&&◌, ℤ, pos, negsuc, ◌+ℤ◌, is_some, Some, None, Option, int_le, int_lt, nat_le, nat_lt}
 use Rattle.bytecode.specs.declared.instr.Instr.{Instr}
 use Rattle.bytecode.specs.declared.instr.Instr.TheVariants.{Nop, Halt, Lit, LitFlag, Pop, Dup, Swap, Load, Store, Add, Sub, Mul, Div, Eq, Lt, Not, Jmp, Jf, DropJmp, In, Out}
@@ -20,29 +20,31 @@ pub record Row : Type 0 where
   pub operands : Operands
   -- whether the next place can follow
   pub falls : Bool
+  -- how much is left for the rewrite rules to do
+  pub weight : ℕ
 
 abbrev pub row : Instr → Row
-row Nop = record { code = 0; operands = bare; falls = true }
-row Halt = record { code = 1; operands = bare; falls = false }
-row (Lit k v) = record { code = 2; operands = number k v; falls = true }
-row (LitFlag k b) = record { code = 3; operands = flag k b; falls = true }
-row Pop = record { code = 4; operands = bare; falls = true }
-row Dup = record { code = 5; operands = bare; falls = true }
-row Swap = record { code = 6; operands = bare; falls = true }
-row (Load x) = record { code = 7; operands = local x; falls = true }
-row (Store x) = record { code = 8; operands = local x; falls = true }
-row Add = record { code = 9; operands = bare; falls = true }
-row Sub = record { code = 10; operands = bare; falls = true }
-row Mul = record { code = 11; operands = bare; falls = true }
-row Div = record { code = 12; operands = bare; falls = true }
-row Eq = record { code = 13; operands = bare; falls = true }
-row Lt = record { code = 14; operands = bare; falls = true }
-row Not = record { code = 15; operands = bare; falls = true }
-row (Jmp d) = record { code = 16; operands = jump d; falls = false }
-row (Jf d) = record { code = 17; operands = jump d; falls = true }
-row (DropJmp d) = record { code = 18; operands = jump d; falls = false }
-row In = record { code = 19; operands = bare; falls = true }
-row Out = record { code = 20; operands = bare; falls = true }
+row Nop = record { code = 0; operands = bare; falls = true; weight = 2 }
+row Halt = record { code = 1; operands = bare; falls = false; weight = 0 }
+row (Lit k v) = record { code = 2; operands = number k v; falls = true; weight = 1 }
+row (LitFlag k b) = record { code = 3; operands = flag k b; falls = true; weight = 1 }
+row Pop = record { code = 4; operands = bare; falls = true; weight = 1 }
+row Dup = record { code = 5; operands = bare; falls = true; weight = 2 }
+row Swap = record { code = 6; operands = bare; falls = true; weight = 2 }
+row (Load x) = record { code = 7; operands = local x; falls = true; weight = 2 }
+row (Store x) = record { code = 8; operands = local x; falls = true; weight = 2 }
+row Add = record { code = 9; operands = bare; falls = true; weight = 2 }
+row Sub = record { code = 10; operands = bare; falls = true; weight = 2 }
+row Mul = record { code = 11; operands = bare; falls = true; weight = 2 }
+row Div = record { code = 12; operands = bare; falls = true; weight = 2 }
+row Eq = record { code = 13; operands = bare; falls = true; weight = 2 }
+row Lt = record { code = 14; operands = bare; falls = true; weight = 2 }
+row Not = record { code = 15; operands = bare; falls = true; weight = 2 }
+row (Jmp d) = record { code = 16; operands = jump d; falls = false; weight = 2 }
+row (Jf d) = record { code = 17; operands = jump d; falls = true; weight = 2 }
+row (DropJmp d) = record { code = 18; operands = jump d; falls = false; weight = 1 }
+row In = record { code = 19; operands = bare; falls = true; weight = 2 }
+row Out = record { code = 20; operands = bare; falls = true; weight = 2 }
 
 -- the instruction has this number and no operands
 abbrev pub IsBare : ℕ → Instr → Type 0

@@ -77,6 +77,17 @@ impl Instr {
         !matches!(self, Instr::Halt | Instr::Jmp(_) | Instr::DropJmp(_))
     }
 
+    /// How much is left for the rewrite rules to do.
+    pub fn weight(&self) -> u8
+        ensures { result ≡ (row self.now).weight }
+    {
+        match self {
+            Instr::Halt => 0,
+            Instr::Lit { .. } | Instr::LitFlag { .. } | Instr::Pop | Instr::DropJmp(_) => 1,
+            _ => 2,
+        }
+    }
+
     /// Whether the instruction may stand there.
     pub fn may_stand(&self, site: Site) -> bool
         ensures { result ≡ standing site.locals site.place site.len self.now }

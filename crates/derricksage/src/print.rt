@@ -9,6 +9,7 @@ use bytecode::unit::Unit;
 use bytecode::word::Word;
 use facts::live::LiveSet;
 use machine::answer::Answer;
+use rewrite::yields::lowest_rule;
 use std::fmt;
 
 /// A unit as a listing, with what is known at each place.
@@ -26,11 +27,18 @@ struct Line {
     len: usize,
 }
 
-/// What is known at a place, as three lines of comments.
+/// An instruction as it is written, without its place.
+#[derive(Clone, Copy)]
+struct InstrText {
+    instr: Instr,
+}
+
+/// What is known at a place, and the rule that applies there with what it makes of the instruction, as lines of comments.
 #[derive(Clone, Copy)]
 struct Remarks<'a> {
     known: &'a Known,
     place: usize,
+    instr: Instr,
     ghost inside: { place < 128 },
 }
 
@@ -54,6 +62,7 @@ impl fmt::Display for UnitListing<'_> {
             let remarks = Remarks {
                 known: self.known,
                 place,
+                instr,
             };
             writeln!(f, "{line}")?;
             write!(f, "{remarks}")?;
@@ -62,19 +71,31 @@ impl fmt::Display for UnitListing<'_> {
     }
 }
 
-impl fmt::Display for Line {
+impl fmt::Display for InstrText {
     fn fmt<W: fmt::Write>(&self, f: &mut fmt::Formatter<W>) -> fmt::Result {
         let Word { op, drops, arg } = Word::from(self.instr);
         let Mnemonic { name, operands } = MNEMONICS[usize::from(op)];
-        write!(f, "{}: {name}", self.place)?;
+        f.write_str(name)?;
         match operands {
             Operands::None => Ok(()),
             Operands::DropsAndArgument => write!(f, " {drops} {arg}"),
-            Operands::Local => write!(f, " {arg}"),
-            Operands::Displacement => match target(self.place, arg, self.len) {
-                Some(to) => write!(f, " {arg} ; to {to}"),
-                None => write!(f, " {arg}"),
-            },
+            Operands::Local | Operands::Displacement => write!(f, " {arg}"),
+        }
+    }
+}
+
+impl fmt::Display for Line {
+    fn fmt<W: fmt::Write>(&self, f: &mut fmt::Formatter<W>) -> fmt::Result {
+        let text = InstrText { instr: self.instr };
+        write!(f, "{}: {text}", self.place)?;
+        let Word { op, arg, .. } = Word::from(self.instr);
+        let to = match MNEMONICS[usize::from(op)].operands {
+            Operands::Displacement => target(self.place, arg, self.len),
+            _ => None,
+        };
+        match to {
+            Some(to) => write!(f, " ; to {to}"),
+            None => Ok(()),
         }
     }
 }
@@ -90,9 +111,16 @@ impl fmt::Display for Remarks<'_> {
         writeln!(f, ";  types {}", types[self.place])?;
         writeln!(f, ";  constants {}", constants[self.place])?;
         if live.same(LiveSet::new()) {
-            writeln!(f, ";  live")
+            writeln!(f, ";  live")?;
         } else {
-            writeln!(f, ";  live {live}")
+            writeln!(f, ";  live {live}")?;
+        }
+        match lowest_rule(self.instr, &constants[self.place], live) {
+            Some((rule, instr)) => {
+                let text = InstrText { instr };
+                writeln!(f, ";  rule {} {text}", rule.number())
+            }
+            None => Ok(()),
         }
     }
 }

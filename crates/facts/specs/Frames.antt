@@ -1,5 +1,6 @@
 -- Frames over cells of any sort: the join of two, and the rank of one. Assumes nothing.
-use Rattle.std.specs.Prelude.{◌≡◌, ℕ, ◌+◌, ◌*◌, ◌≤◌, cond, ◌==◌, List, [], ◌∷◌, ◌++◌, drop, length, map, nat_lt, replicate, sum}
+use Rattle.std.specs.Prelude.{◌≡◌, ℕ, ◌+◌, ◌*◌, ◌≤◌, cond, ◌==◌, List, [], ◌∷◌, ◌++◌, drop, length, map, nat_lt, replicate, sum, None, Option}
+use Rattle.std.specs.List.{slice_get}
 use Rattle.facts.specs.Held.{Held}
 use Rattle.facts.specs.declared.frame.Frame.{Frame}
 use Rattle.facts.specs.declared.frame.Frame.TheVariants.{Unreached, At, Clash}
@@ -40,6 +41,12 @@ Fitting Clash = Unit {0}
 -- before the first instruction: no value, and nothing is known of the locals
 abbrev pub entry : {C : Type 0} → C → Held C
 entry top = record { stack = []; locals = replicate 16 top }
+
+-- what is known of the top value, if there is one
+abbrev pub top_of : {C : Type 0} → Frame C → Option C
+top_of Unreached = None
+top_of (At a) = slice_get a.stack 0
+top_of Clash = None
 
 -- with xs in the place of the top k values; Clash where there are fewer, or where more than 8 would be left
 abbrev pub replaced : {C : Type 0} → ℕ → List C → Held C → Frame C

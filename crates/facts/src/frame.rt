@@ -1,6 +1,6 @@
 //! What is known before a place.
 ghost use Rattle.std.specs.Prelude.{◌≡◌, [], ◌∷◌, ◌↔◌, IsTrue};
-ghost use Rattle.facts.specs.Frames.{entry, joined_frames, replaced};
+ghost use Rattle.facts.specs.Frames.{entry, joined_frames, replaced, top_of};
 
 use crate::cell::Cell;
 use crate::cells::Cells;
@@ -33,6 +33,16 @@ impl<C: Cell> Frame<C> {
             (Frame::Unreached, frame) | (frame, Frame::Unreached) => *frame,
             (Frame::At(a), Frame::At(b)) if a.height() == b.height() => Frame::At(a.join(b)),
             _ => Frame::Clash,
+        }
+    }
+
+    /// The cell of the top value; none where there is no value.
+    pub fn top(&self) -> Option<C>
+        ensures { result ≡ top_of self.now }
+    {
+        match self {
+            Frame::At(cells) if cells.height() > 0 => Some(cells.cell(0)),
+            _ => None,
         }
     }
 

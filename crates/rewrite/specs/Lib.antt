@@ -1,0 +1,4 @@
+pub mod Choices
+pub mod Laws
+pub mod Rules
+pub mod Weights
