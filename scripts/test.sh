@@ -1,9 +1,10 @@
 #!/bin/sh
-# Proves every crate, tries the edits that must be refused, runs the program and the tests, and then the program's
-# command-line cases. Fails where an edit could not be tried. Its last line is rt's own.
+# Makes the edits that must not compile, proves every crate, tries the edits that must be refused, runs the program and the
+# tests, and then the program's command-line cases. Fails where an edit could not be tried. Its last line is rt's own.
 cd "$(dirname "$0")/.." || exit 2
 log=$(mktemp) || exit 2
 trap 'rm -f "$log" "$log.status"' EXIT
+sh compile-fail/run.sh || exit 1
 { rt ci; echo $? >"$log.status"; } 2>&1 | tee "$log"
 [ "$(cat "$log.status")" = 0 ] || exit 1
 if grep -Eq '^rt: ok.*, [0-9]+ bad' "$log"; then

@@ -7,6 +7,7 @@
 #   bytes NAME HEX .. makes a file of these bytes
 #   nops NAME N       makes a listing of N instructions: NOP, and a HALT at the end
 #   text NAME         makes a file of the lines "| TEXT" that follow
+#   input NAME        the next run reads this file from standard input, and else nothing
 #   $ WORD ..         runs the program with these words
 #   > TEXT            the next line that it must have written to standard output
 #   ! TEXT            the next line that it must have written to standard error
@@ -56,8 +57,9 @@ make_nops() {
 
 run_program() {
     command="derricksage $*"
-    "$program" "$@" >"$work/stdout" 2>"$work/stderr" </dev/null
+    "$program" "$@" >"$work/stdout" 2>"$work/stderr" <"$input"
     status=$?
+    input=/dev/null
     : >"$work/want-stdout"
     : >"$work/want-stderr"
     pending=yes
@@ -90,6 +92,7 @@ perform() {
         set -- $1
         make_nops "$3" >"$2"
         ;;
+    'input '*) input=${1#* } ;;
     'text '*)
         text=${1#* }
         : >"$text"
@@ -112,6 +115,7 @@ for file; do
     number=0
     good=yes
     pending=no
+    input=/dev/null
     mkdir "$work/$name" && cd "$work/$name" || exit 2
     while IFS= read -r content; do
         number=$((number + 1))

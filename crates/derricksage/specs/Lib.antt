@@ -1,1 +1,4 @@
 pub mod Names
+pub mod Picks
+pub mod Tokens
+pub mod Opened

@@ -24,6 +24,19 @@ pub enum Command<'a> {
         room: usize,
         inputs: Vec<i32>,
     },
+    /// A unit file without what can be folded or left out.
+    Tidy {
+        file: &'a str,
+        out: &'a str,
+    },
+    /// The calls of a script, from a file or else from standard input.
+    Play {
+        script: Option<&'a str>,
+    },
+    /// Whether the attempts that a script abandons leave a trace.
+    Trace {
+        script: Option<&'a str>,
+    },
 }
 
 /// How a command is written, and what it does.
@@ -35,7 +48,7 @@ pub struct Usage {
     pub purpose: &'static str,
 }
 
-static USAGES: [Usage; 4] = [
+static USAGES: [Usage; 7] = [
     Usage {
         name: "asm",
         words: "asm LISTING FILE",
@@ -50,6 +63,21 @@ static USAGES: [Usage; 4] = [
         name: "run",
         words: "run FILE BUDGET ROOM [INPUT ..]",
         purpose: "one run of a unit file",
+    },
+    Usage {
+        name: "tidy",
+        words: "tidy FILE OUT",
+        purpose: "a unit file, folded and without dead stores, as another",
+    },
+    Usage {
+        name: "play",
+        words: "play [SCRIPT]",
+        purpose: "the calls of a script, from the file or from standard input",
+    },
+    Usage {
+        name: "trace",
+        words: "trace [SCRIPT]",
+        purpose: "whether the attempts that a script abandons leave a trace",
     },
     Usage {
         name: "help",
@@ -93,6 +121,18 @@ pub fn parse(heap: Global, words: &[String]) -> Result<Command<'_>, Error<'_>> {
                 .iter()
                 .map(|input| number("INPUT", input))
                 .try_collect(heap)?,
+        }),
+        ("tidy", [file, out]) => Ok(Command::Tidy {
+            file: file.as_str(),
+            out: out.as_str(),
+        }),
+        ("play", []) => Ok(Command::Play { script: None }),
+        ("play", [script]) => Ok(Command::Play {
+            script: Some(script.as_str()),
+        }),
+        ("trace", []) => Ok(Command::Trace { script: None }),
+        ("trace", [script]) => Ok(Command::Trace {
+            script: Some(script.as_str()),
         }),
         (name, _) => Err(wrong_words(name)),
     }

@@ -1,5 +1,6 @@
 //! Why a command fails. Each error prints as one line: it begins with the file's name where a file is at fault, else with the program's.
 use crate::command::Usage;
+use crate::denied::Denied;
 use crate::mnemonic::Mnemonic;
 use analyses::verify::VerifierFault;
 use bytecode::fault::ReadFault;
@@ -8,7 +9,7 @@ use facts::frame::Frame;
 use std::alloc::AllocError;
 use std::io;
 
-/// Why a line of a listing says no instruction.
+/// Why a line of a listing says no instruction, or a line of a script nothing.
 #[derive(Debug, Drop, thiserror::Error)]
 pub enum LineFault {
     #[error("the first line must be \"locals L\"")]
@@ -25,6 +26,8 @@ pub enum LineFault {
     /// A word that is no number of its range.
     #[error("{word:?} is not {range}")]
     NotNumber { word: String, range: &'static str },
+    #[error("this is no line of a script")]
+    NoStep,
     #[error("not enough memory")]
     Memory(#[from(alloc)] AllocError),
 }
@@ -57,6 +60,14 @@ pub enum Error<'a> {
         name: &'a str,
         error: io::Error,
     },
+    /// A file that a line of a script names.
+    #[error("{name}:{line}: {file}: {error}")]
+    ScriptFile {
+        name: &'a str,
+        line: usize,
+        file: String,
+        error: io::Error,
+    },
     #[error("{name}:{fault}")]
     Listing {
         name: &'a str,
@@ -73,6 +84,12 @@ pub enum Error<'a> {
         name: &'a str,
         fault: VerifierFault,
         frame: Frame<TypeCell>,
+    },
+    /// Why the unit of a file is not tidied.
+    #[error("{name}: {denied}")]
+    Denied {
+        name: &'a str,
+        denied: Denied,
     },
     /// The arguments or the standard output fail.
     #[error("derricksage: {0}")]

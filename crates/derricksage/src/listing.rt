@@ -1,11 +1,14 @@
 //! A listing's text to the locals and words that it says.
-ghost use Rattle.std.specs.Prelude.{◌≡◌, ◌==◌, [], ◌∷◌, ◌++◌, OnOk, OnErr};
+ghost use Rattle.std.specs.Prelude.{◌≡◌, ◌==◌, [], ◌∷◌, ◌++◌, OnOk, OnErr, IfOk};
 ghost use Rattle.std.specs.List.{before_first};
+ghost use Rattle.bytecode.specs.Layout.{file};
 
 use crate::error::{LineFault, TextFault};
 use crate::mnemonic::{MNEMONICS, Operands, find};
 use crate::number::InRange;
+use bytecode::fault::TooShort;
 use bytecode::word::Word;
+use bytecode::write::{file_length, write_words};
 use std::alloc::{AllocError, Global};
 
 // `heap` goes from call to call and stands in no struct: so std shows which functions allocate.
@@ -47,7 +50,7 @@ fn before_comment(line: &str) -> &str
 }
 
 /// The words of a text.
-fn words_of(heap: Global, text: &str) -> Result<Vec<&str>, AllocError> {
+pub fn words_of(heap: Global, text: &str) -> Result<Vec<&str>, AllocError> {
     text.split_ascii_whitespace().collect(heap)
 }
 
@@ -78,10 +81,14 @@ fn after_place(code: &str, place: usize) -> Result<&str, LineFault> {
     }
 }
 
-/// The word that a name and its operands say.
+/// The word that an instruction's text says.
 fn instruction(heap: Global, code: &str) -> Result<Word, LineFault> {
-    let words = words_of(heap, code)?;
-    let [name, operands @ ..] = words.as_slice() else {
+    spelled(heap, words_of(heap, code)?.as_slice())
+}
+
+/// The word that a name and its operands say.
+pub fn spelled(heap: Global, words: &[&str]) -> Result<Word, LineFault> {
+    let [name, operands @ ..] = words else {
         return Err(LineFault::NoInstruction);
     };
     let Some(op) = find(&MNEMONICS, name) else {
@@ -103,11 +110,24 @@ fn instruction(heap: Global, code: &str) -> Result<Word, LineFault> {
 
 /// The number that a word is.
 // Not that of the command line, whose error borrows the word: this one outlives the text.
-fn number<T: InRange>(heap: Global, word: &str) -> Result<T, LineFault> {
+pub fn number<T: InRange>(heap: Global, word: &str) -> Result<T, LineFault> {
     word.parse().try_map_err(|_| {
         Ok(LineFault::NotNumber {
             word: String::from_str(heap, word)?,
             range: T::RANGE,
         })
     })
+}
+
+/// The bytes of the unit file that a listing says.
+pub fn file_of(heap: Global, listing: &Listing) -> Result<Vec<u8>, AllocError>
+    ensures { IfOk result (λ bytes. bytes.items ≡ file listing.now.locals listing.now.words.items) }
+{
+    let words = listing.words.as_slice();
+    let length = file_length(words.len()).ok_or(AllocError)?;
+    let mut bytes = vec![in heap; 0u8; length]?;
+    match write_words(listing.locals, words, bytes.as_mut_slice()) {
+        Ok(_) => Ok(bytes),
+        Err(TooShort) => unreachable!(),
+    }
 }

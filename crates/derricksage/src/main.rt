@@ -1,14 +1,27 @@
 //! Makes, lists and runs units of stack bytecode.
 #![tactic(auto)]
 
+mod answer;
 mod command;
+mod denied;
+mod desk;
+mod desks;
 mod error;
 mod known;
 mod listing;
 mod mnemonic;
 mod number;
 mod perform;
+mod pick;
+mod play;
 mod print;
+mod script;
+mod side;
+mod source;
+mod table;
+mod tidy;
+mod token;
+mod trace;
 
 use crate::error::Error;
 use crate::perform::perform;

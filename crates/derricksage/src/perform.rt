@@ -1,25 +1,22 @@
 //! What each command does. Nothing is printed or written before all that can be refused is right.
-ghost use Rattle.std.specs.Prelude.{◌≡◌, IfOk};
-ghost use Rattle.bytecode.specs.Layout.{file};
-
 use crate::command::{Command, HelpText};
 use crate::error::Error;
 use crate::known::Known;
-use crate::listing::Listing;
+use crate::listing::{Listing, file_of};
+use crate::play::play;
 use crate::print::{RunLine, UnitListing};
+use crate::tidy::tidy;
+use crate::trace::trace;
 use crate::{command, listing};
-use bytecode::fault::TooShort;
 use bytecode::read::read;
 use bytecode::unit::Unit;
-use bytecode::write::{file_length, write_words};
 use machine::run::run;
-use std::alloc::{AllocError, Global};
 use std::rt::Files;
 use std::{fs, io};
 
 /// Does what the words after the program's name ask for.
 pub fn perform<'a>(
-    rt: &(impl Files + Print + AllocGlobal),
+    rt: &(impl Files + Input + Print + AllocGlobal),
     words: &'a [String],
 ) -> Result<(), Error<'a>> {
     match command::parse(rt.alloc(), words)? {
@@ -35,6 +32,9 @@ pub fn perform<'a>(
             room,
             inputs,
         } => run_once(rt, file, budget, room, inputs.as_slice()),
+        Command::Tidy { file, out } => tidy(rt, file, out),
+        Command::Play { script } => play(rt, script),
+        Command::Trace { script } => trace(rt, script),
     }
 }
 
@@ -84,7 +84,7 @@ fn run_once<'a>(
 }
 
 /// What the system did with the file of this name.
-fn in_file<T>(name: &str, done: io::Result<T>) -> Result<T, Error<'_>> {
+pub fn in_file<T>(name: &str, done: io::Result<T>) -> Result<T, Error<'_>> {
     done.map_err(|error| Error::File { name, error })
 }
 
@@ -98,17 +98,4 @@ fn read_listing<'a>(rt: &(impl Files + AllocGlobal), name: &'a str) -> Result<Li
 fn read_unit<'a>(rt: &(impl Files + AllocGlobal), name: &'a str) -> Result<Unit, Error<'a>> {
     let bytes = in_file(name, fs::read(rt, name))?;
     read(bytes.as_slice()).map_err(|fault| Error::Refused { name, fault })
-}
-
-/// The bytes of the unit file that a listing says.
-fn file_of(heap: Global, listing: &Listing) -> Result<Vec<u8>, AllocError>
-    ensures { IfOk result (λ bytes. bytes.items ≡ file listing.now.locals listing.now.words.items) }
-{
-    let words = listing.words.as_slice();
-    let length = file_length(words.len()).ok_or(AllocError)?;
-    let mut bytes = vec![in heap; 0u8; length]?;
-    match write_words(listing.locals, words, bytes.as_mut_slice()) {
-        Ok(_) => Ok(bytes),
-        Err(TooShort) => unreachable!(),
-    }
 }

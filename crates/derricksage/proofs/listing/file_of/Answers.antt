@@ -1,7 +1,7 @@
 use Rattle.std.proofs.Common.{arith}
 use Rattle.std.proofs.lemmas.Grind.{common_steps}
 use Rattle.bytecode.proofs.Files.{joined_long}
-use Rattle.derricksage.proofs.perform.file_of.Goals as goal
+use Rattle.derricksage.proofs.listing.file_of.Goals as goal
 
 pub unreachable-requires : goal.unreachable-requires
 unreachable-requires c = grind (arith, common_steps, joined_long, c.in-Err.ensures)

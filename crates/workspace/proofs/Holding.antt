@@ -1,0 +1,17 @@
+-- What is solved for a unit is held with it.
+use Rattle.std.proofs.Common.{◌≡◌, List, Some, refl, subst}
+use Rattle.bytecode.specs.declared.instr.Instr.{Instr}
+use Rattle.bytecode.specs.declared.unit.Unit.{Unit as TheUnit}
+use Rattle.workspace.specs.declared.solutions.Solutions.{Solutions}
+use Rattle.workspace.specs.Does.{Holds}
+use Rattle.workspace.specs.Stored.{contents_of, AreSolutions}
+
+pub holds_solved : (g u : TheUnit) (s : Solutions) (codes now : List (List Instr)) → g ≡ u → AreSolutions g s → now ≡ codes
+    → Holds u codes (Some (contents_of (record { unit = u; solutions = s; opened = now })))
+holds_solved g u s codes now same solved e = record {
+  contents = contents_of (record { unit = u; solutions = s; opened = now });
+  is = refl;
+  unit = refl;
+  opened = e;
+  solved = subst (λ x. AreSolutions x s) same solved now;
+}

@@ -1,0 +1,4 @@
+use Rattle.workspace.proofs.held.Held.facts_at.Goals as goal
+
+pub returns : goal.returns
+returns c = rw (← c.self.view_is) (c.at.ensures c.self.inside.unit)

@@ -1,0 +1,10 @@
+pub mod Refusals
+pub mod Contents
+pub mod Record
+pub mod Calls
+pub mod Does
+pub mod Histories
+pub mod Stored
+pub mod Views
+pub mod Policies
+pub mod Replay
