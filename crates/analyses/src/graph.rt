@@ -69,7 +69,7 @@ impl Graph {
         self.edges.as_slice().len()
     }
 
-    /// The edge of a number.
+    /// The edge with this number.
     pub(crate) fn edge(&self, edge: usize) -> Edge
         requires { edge < length (edges_of self.now) }
         ensures { result ≡ edge_at self.now edge }

@@ -1,7 +1,8 @@
 //! Uses of a workspace, as a caller writes them.
 #![tactic(auto)]
 
-ghost use Rattle.std.specs.Prelude.{IfOk};
+ghost use Rattle.std.specs.Prelude.{◌≡◌, IfOk};
+ghost use Rattle.workspace.specs.Policies.{EmptiedBy};
 ghost use Rattle.workspace.specs.Replay.{history};
 ghost use Rattle.workspace.specs.Stored.{model_of};
 ghost use Rattle.callers.specs.Steps.{ChangedOrAbandoned, KeptOrChanged};
@@ -24,7 +25,8 @@ pub fn change_or_abandon<T: Policy, C: Policy, L: Policy>(
     instr: Instr,
     policies: &mut Policies<T, C, L>,
 ) -> Result<(), (Refusal, Attempt)>
-    ensures { ChangedOrAbandoned attempt place instr (model_of workspace.old) result (model_of workspace.new) }
+    ensures does { ChangedOrAbandoned attempt place instr (model_of workspace.old) result (model_of workspace.new) }
+    ensures policies { EmptiedBy T.pending C.pending L.pending result policies.old policies.new }
 {
     if let Err(_) = workspace.propose(&attempt, place, instr, policies) {
         return workspace.abandon(attempt, policies);
@@ -40,7 +42,8 @@ pub fn keep_or_change<T: Policy, C: Policy, L: Policy>(
     instr: Instr,
     policies: &mut Policies<T, C, L>,
 ) -> Result<(), (Refusal, Attempt)>
-    ensures { KeptOrChanged attempt place instr (model_of workspace.old) result (model_of workspace.new) }
+    ensures does { KeptOrChanged attempt place instr (model_of workspace.old) result (model_of workspace.new) }
+    ensures policies { policies.new ≡ policies.old }
 {
     match workspace.keep(attempt) {
         Ok(()) => Ok(()),

@@ -11,7 +11,7 @@ pub enum Frame<C: Cell> {
     /// No run comes there.
     Unreached,
     At(Cells<C>),
-    /// Runs come there with stacks of unlike heights, or past an instruction that is not applicable.
+    /// Edges carry frames of unlike heights there, or one leads there from an instruction that is not applicable.
     Clash,
 }
 

@@ -13,7 +13,7 @@ pub struct LiveSet {
     bits: u16,
 }
 
-// The number of those bits.
+// The number whose bits they are.
 impl Model for LiveSet {
     ghost Value = { ℕ };
 

@@ -10,7 +10,7 @@ pub enum Reason {
     TooMany,
     /// A value is not of the kind that the instruction asks for, or the local that is loaded is Unusable.
     WrongKind,
-    /// Runs come to the place with stacks of unlike heights.
+    /// The frame at the place is Clash.
     Clash,
 }
 

@@ -14,7 +14,7 @@ use Rattle.machine.specs.Machine.{State, row_in, tests, turn}
 use Rattle.machine.specs.Laws.{TurnsAlike, InStep, SameAnswers}
 use Rattle.machine.specs.DeadCode.{turn-slice_set}
 use Rattle.analyses.specs.Edges.{instr_at}
-use Rattle.keep.specs.Keeps.{NeverStuck, IsChanged}
+use Rattle.keep.specs.Keeps.{IsNeverStuck, IsChanged}
 use Rattle.keep.proofs.InStepKeeps.{instep_keeps}
 
 pub held_changed : (u : TheUnit) (p : ℕ) (new : Instr) (v : TheUnit) → p < u.len → IsChanged u p new v → held v ≡ set (held u) p new
@@ -47,7 +47,7 @@ module _ (u : TheUnit) (p : ℕ) (new : Instr) (low : p < u.len) where
   pub changed_keeps : (v : TheUnit) → IsChanged u p new v → (R : List ℤ → ℕ → State → State → Type 0)
       → ((inputs : List ℤ) (room : ℕ) → InStep (held u) (held u) inputs room (R inputs room))
       → ((inputs : List ℤ) (room : ℕ) → AlikeAt (R inputs room) u p new inputs room)
-      → SameAnswers (held u) (held v) × (NeverStuck (held u) → NeverStuck (held v))
+      → SameAnswers (held u) (held v) × (IsNeverStuck (held u) → IsNeverStuck (held v))
   changed_keeps v changed R own here =
       rw (held_changed u p new v low changed)
       (instep_keeps (held u) (set (held u) p new) R (λ inputs room. record {

@@ -20,7 +20,7 @@ use Rattle.analyses.specs.Frameworks.{live_of}
 use Rattle.sound.specs.LiveMeaning.{with_locals, live_before, LocalsAgree, DifferInDead}
 use Rattle.sound.proofs.LiveRows.{dead_set_agrees}
 use Rattle.sound.proofs.LiveTurns.{tests_alike, live_at, agree_before, dead_in_step}
-use Rattle.keep.specs.Keeps.{NeverStuck, IsChanged}
+use Rattle.keep.specs.Keeps.{IsNeverStuck, IsChanged}
 use Rattle.keep.proofs.ChangedUnits.{changed_keeps}
 
 module _ (u : TheUnit) (live : ℕ → ℕ) (solution : Solution IsSet (live_of u) live) where
@@ -38,7 +38,7 @@ module _ (u : TheUnit) (live : ℕ → ℕ) (solution : Solution IsSet (live_of 
 
 pub dead_store_keeps : (u v : TheUnit) (live : ℕ → ℕ) (p n : ℕ) → IsChanged u p I.Pop v → Solution IsSet (live_of u) live → p < u.len
     → instr_at u p ≡ I.Store n → has_bit (live p) n ≡ false
-    → SameAnswers (held u) (held v) × (NeverStuck (held u) → NeverStuck (held v))
+    → SameAnswers (held u) (held v) × (IsNeverStuck (held u) → IsNeverStuck (held v))
 dead_store_keeps u v live p n changed solution low is dead =
     let stands : slice_get (held u) p ≡ Some (I.Store n) = slice_get-get_or (held u) p I.Nop (omega (arith, length-held u)) ∙ ap Some is in
     let coded : get_or u.code p I.Nop ≡ I.Store n = sym (get_or-take u.len u.code p I.Nop low) ∙ is in

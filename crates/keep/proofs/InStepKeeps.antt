@@ -5,7 +5,7 @@ use Rattle.machine.specs.declared.ending.Ending.TheVariants.{Stuck}
 use Rattle.machine.specs.Machine.{State, Turn, ends, goes, start, turn}
 use Rattle.machine.specs.Laws.{TurnsAlike, InStep, SameAnswers, Reached, first, later}
 use Rattle.machine.proofs.Lockstep.{lockstep}
-use Rattle.keep.specs.Keeps.{NeverStuck}
+use Rattle.keep.specs.Keeps.{IsNeverStuck}
 
 module _ (code other : List Instr) (inputs : List ℤ) (room : ℕ) (R : State → State → Type 0) (i : InStep code other inputs room R) where
   -- a state of the first code's runs that is related to a state of the second's
@@ -36,7 +36,7 @@ module _ (code other : List Instr) (inputs : List ℤ) (room : ℕ) (R : State �
 
 pub instep_keeps : (code other : List Instr) (R : List ℤ → ℕ → State → State → Type 0)
     → ((inputs : List ℤ) (room : ℕ) → InStep code other inputs room (R inputs room))
-    → SameAnswers code other × (NeverStuck code → NeverStuck other)
+    → SameAnswers code other × (IsNeverStuck code → IsNeverStuck other)
 instep_keeps code other R i = (
   λ inputs room budget. lockstep code other inputs room (R inputs room) (i inputs room) budget,
   λ never inputs room t r e.

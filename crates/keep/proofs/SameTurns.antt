@@ -19,12 +19,12 @@ use Rattle.analyses.specs.Edges.{instr_at}
 use Rattle.analyses.specs.Frameworks.{constants_of}
 use Rattle.sound.specs.Describes.{ConstTells, Describes}
 use Rattle.sound.proofs.Constants.{constants_hold}
-use Rattle.keep.specs.Keeps.{NeverStuck, IsChanged}
+use Rattle.keep.specs.Keeps.{IsNeverStuck, IsChanged}
 use Rattle.keep.proofs.ChangedUnits.{changed_keeps}
 
 -- the second code gives the whole answers of the first, and is never stuck if the first is not
 abbrev pub Keeps : List Instr → List Instr → Type 0
-Keeps code other = SameAnswers code other × (NeverStuck code → NeverStuck other)
+Keeps code other = SameAnswers code other × (IsNeverStuck code → IsNeverStuck other)
 
 -- in a code of n the two instructions have one turn in this state
 abbrev pub SameTurn : ℕ → List ℤ → ℕ → Instr → Instr → State → Type 0

@@ -19,9 +19,9 @@ use Rattle.analyses.specs.Verdicts.{Accepts}
 use Rattle.rewrite.specs.declared.rule.Rule.{Rule}
 use Rattle.rewrite.specs.Rules.{Yields}
 
--- no run of the code meets an instruction that is not applicable
-abbrev pub NeverStuck : List Instr → Type 0
-NeverStuck code = (inputs : List ℤ) (room : ℕ) (s : State) → Reached code inputs room s → turn code inputs room s ≢ ends Stuck
+-- no turn of a run of the code is stuck
+abbrev pub IsNeverStuck : List Instr → Type 0
+IsNeverStuck code = (inputs : List ℤ) (room : ℕ) (s : State) → Reached code inputs room s → turn code inputs room s ≢ ends Stuck
 
 -- frames of constants and sets of live locals that solve the equations of the unit, least or not
 pub record Solves (u : TheUnit) (known : ℕ → Frame ConstCell) (live : ℕ → ℕ) : Type 0 where
@@ -42,8 +42,8 @@ pub record IsChanged (u : TheUnit) (p : ℕ) (new : Instr) (v : TheUnit) : Type 
 -- the changed unit's runs give the same whole answers, and none of them is stuck
 abbrev pub RulesKeepRuns : Type 0
 RulesKeepRuns = (r : Rule) (u v : TheUnit) (known : ℕ → Frame ConstCell) (live : ℕ → ℕ) (p : ℕ) (new : Instr)
-    → NeverStuck (held u) → Solves u known live → YieldsAt r u known live p new → IsChanged u p new v
-    → SameAnswers (held u) (held v) × NeverStuck (held v)
+    → IsNeverStuck (held u) → Solves u known live → YieldsAt r u known live p new → IsChanged u p new v
+    → SameAnswers (held u) (held v) × IsNeverStuck (held v)
 
 -- what a rule makes may stand where the instruction stood
 abbrev pub RulesKeepUnits : Type 0

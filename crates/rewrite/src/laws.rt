@@ -14,7 +14,7 @@ pub fn rules_lower_weight()
     ensures code { RulesLowerCode }
 {}
 
-/// A unit weighs at most 256.
+/// A code of at most 128 instructions weighs at most 256.
 pub fn code_weighs_at_most_256()
     ensures { CodeWeighsAtMost256 }
 {}

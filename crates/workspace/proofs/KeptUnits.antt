@@ -9,7 +9,7 @@ use Rattle.bytecode.proofs.Units.{unit_from_held}
 use Rattle.machine.specs.Laws.{SameAnswers}
 use Rattle.rewrite.specs.declared.rule.Rule.{Rule}
 use Rattle.sound.proofs.Types.{no_stuck_turn}
-use Rattle.keep.specs.Keeps.{NeverStuck, YieldsAt, IsChanged, IsAccepted}
+use Rattle.keep.specs.Keeps.{IsNeverStuck, YieldsAt, IsChanged, IsAccepted}
 use Rattle.keep.proofs.RunsKept.{rules_keep_runs}
 use Rattle.keep.proofs.AcceptanceKept.{rules_keep_acceptance}
 use Rattle.workspace.specs.Contents.{Contents, IsSolved}
@@ -39,7 +39,7 @@ pub record Kept (u : TheUnit) (m : Model) : Type 0 where
   pub is : m ≡ Some contents
   pub kept : KeptIn u contents
 
-never_stuck : (u : TheUnit) → IsAccepted u → NeverStuck (held u)
+never_stuck : (u : TheUnit) → IsAccepted u → IsNeverStuck (held u)
 never_stuck u a = no_stuck_turn u a.0 a.1 a.2
 
 module _ (u : TheUnit) where

@@ -12,6 +12,7 @@ pub mod Untraced
 pub mod Promise
 pub mod Buffers
 pub mod Replayed
+pub mod Depths
 pub mod Fresh
 pub mod Holding
 pub mod Loading
@@ -19,3 +20,4 @@ pub mod PutBack
 pub mod Records
 pub mod Tidying
 pub mod Yielded
+pub mod LeftPolicies

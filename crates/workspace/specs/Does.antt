@@ -1,12 +1,11 @@
 -- What each call does to a workspace and answers. Assumes nothing.
-use Rattle.std.specs.Prelude.{◌≡◌, ℕ, zero, suc, ◌+◌, Bool, true, false, not, ◌&&◌, ◌==◌, ◌⊎◌, List, [], ◌∷◌, length, drop, Some, None, Option, Ok, Err, Result, nat_le, nat_lt, slice_index_or}
+use Rattle.std.specs.Prelude.{◌≡◌, ℕ, zero, suc, ◌+◌, Bool, true, false, not, ◌&&◌, ◌==◌, ◌⊎◌, List, [], ◌∷◌, length, drop, Some, None, Option, Ok, Err, Result, nat_le, nat_lt, slice_index_or, ℤ}
 use Rattle.bytecode.specs.declared.instr.Instr.{Instr}
 use Rattle.bytecode.specs.declared.unit.Unit.{Unit as TheUnit}
 use Rattle.bytecode.specs.declared.fault.ReadFault.{ReadFault}
 use Rattle.bytecode.specs.Files.{held, bytes_of, Outcome, Written}
 use Rattle.machine.specs.declared.answer.Answer.{Answer as RunAnswer}
 use Rattle.machine.specs.Machine.{whole_run, Answers}
-use Rattle.std.specs.Prelude.{ℤ}
 use Rattle.dataflow.specs.Analysis.{LeastSolution}
 use Rattle.facts.specs.declared.cell.TypeCell.{TypeCell}
 use Rattle.facts.specs.declared.frame.Frame.{Frame}
@@ -98,7 +97,8 @@ Tidies zero c m = NothingToDo c.unit c.constants c.lives × (m ≡ Some c)
 Tidies (suc n) c m =
     (x : Change) × LowestChange c.unit c.constants c.lives x × (u : TheUnit) × IsChanged c.unit x.place x.instr u × (d : Contents) × Holds u c.opened (Some d) × Tidies n d m
 
--- what an accepted call does to what is held, and answers
+-- what a call that passes the checks above does to what is held, and answers; whether a rule yields the instruction of a
+-- propose, its last check, is here
 abbrev pub Accepts : Call → Contents → Answer → Model → Type 0
 Accepts (load file) c a m = ⊥
 Accepts opens c a m = (a ≡ opened (length c.opened + 1)) × (m ≡ Some (record c { opened = held c.unit ∷ c.opened }))

@@ -82,7 +82,10 @@ pub record KeptPromise (made : List Event) : Type 0 where
       (without : List Event) (m : Model) → Runs None without m →
       calls_of without ≡ calls_of (before ++ after) →
       answers_of without ≡ answers_of (before ++ after)
-  -- an accepted load and then a write-out give the file's bytes
+  -- the same calls on another new workspace, under whichever policies, are answered alike, take counts aside
+  pub repeated :
+      (again : List Event) (m : Model) → Runs None again m → calls_of again ≡ calls_of made → answers_of again ≡ answers_of made
+  -- a write-out right after an accepted load gives the file's bytes
   pub written_back :
       (before later : List Event) (file buffer filled : List ℕ) (n : ℕ) →
       made ≡ before ++ accepted_load file ∷ event (write_out buffer) (written n filled) ∷ later →

@@ -1,5 +1,5 @@
 -- What a call leaves in the pick policies. Assumes nothing.
-use Rattle.std.specs.Prelude.{◌≡◌, ℕ, Bool, Ok, Err, Result}
+use Rattle.std.specs.Prelude.{◌≡◌, ℕ, Bool, ◌⊎◌, Ok, Err, Result}
 use Rattle.dataflow.specs.Pending.{IsEmpty}
 use Rattle.workspace.specs.declared.policies.Policies.{Policies}
 use Rattle.workspace.specs.declared.refusal.LoadFault.{LoadFault}
@@ -29,3 +29,9 @@ module _ {T C L : Type 0} (in_types : T → ℕ → Bool) (in_constants : C → 
   EmptiedByLoad (Err (F.File fault)) old new = new ≡ old
   EmptiedByLoad (Err (F.Unit fault)) old new = new ≡ old
   EmptiedByLoad (Err (F.Verifier fault)) old new = OnlyTypesEmpty old new
+
+  -- each is empty, or as it was
+  pub record EmptyOrSame (old new : Policies T C L) : Type 0 where
+    pub types : IsEmpty (in_types new.types) ⊎ (new.types ≡ old.types)
+    pub constants : IsEmpty (in_constants new.constants) ⊎ (new.constants ≡ old.constants)
+    pub lives : IsEmpty (in_lives new.lives) ⊎ (new.lives ≡ old.lives)

@@ -113,7 +113,7 @@ impl Held {
         }
     }
 
-    /// Puts back the code that was held when the innermost attempt was opened.
+    /// Puts back the code that was held when the innermost attempt was opened, and solves anew.
     pub(crate) fn abandon<T: Policy, C: Policy, L: Policy>(
         &mut self,
         policies: &mut Policies<T, C, L>,

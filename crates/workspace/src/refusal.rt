@@ -80,7 +80,7 @@ impl LoadFault {
 }
 
 impl Refusal {
-    /// The refusal number. The place that is named is 0.
+    /// The refusal number. None of these names a place, which is told as 0.
     pub fn number(&self) -> u8
         ensures { result ≡ refusal_number self.now }
     {

@@ -81,7 +81,7 @@ impl Workspace {
         Ok(held.tidy(policies))
     }
 
-    /// Hands the innermost attempt's changes to the attempt around it.
+    /// Hands the innermost attempt's changes to the attempt around it, or at depth 1 forgets them.
     pub fn keep(&mut self, attempt: Attempt) -> Result<(), (Refusal, Attempt)>
         ensures { Does (keep attempt) (model_of self.old) (spending kept result) (model_of self.new) }
     {
@@ -96,7 +96,7 @@ impl Workspace {
         Ok(())
     }
 
-    /// Puts back the code that was held when the innermost attempt was opened.
+    /// Puts back the code that was held when the innermost attempt was opened, and solves anew.
     pub fn abandon<T: Policy, C: Policy, L: Policy>(
         &mut self,
         attempt: Attempt,

@@ -3,6 +3,7 @@ ghost use Rattle.std.specs.Prelude.{◌≡◌, ◌≤◌, ◌<◌, pos, IfOk, Ma
 ghost use Rattle.workspace.specs.Calls.{load, opens, propose, tidy, keep, abandon, run, write_out, facts_at, take_counts, unit_now};
 ghost use Rattle.workspace.specs.Does.{Does};
 ghost use Rattle.workspace.specs.Histories.{calls_of, KeptPromise};
+ghost use Rattle.workspace.specs.Policies.{EmptyOrSame};
 ghost use Rattle.workspace.specs.Replay.{blank, asked, told, history};
 ghost use Rattle.workspace.specs.Stored.{model_of};
 
@@ -28,6 +29,7 @@ pub fn replay<T: Policy, C: Policy, L: Policy>(
     ensures made { IfOk result (λ done. calls_of (history calls.now replies.new) ≡ map asked calls.now) }
     ensures rest { drop (length calls.now) replies.new ≡ drop (length calls.now) replies.old }
     ensures promise { IfOk result (λ done. KeptPromise (history calls.now replies.new)) }
+    ensures policies { EmptyOrSame T.pending C.pending L.pending policies.old policies.new }
 {
     if replies.len() < calls.len() {
         return Err(TooShort);
@@ -46,7 +48,8 @@ fn enter<T: Policy, C: Policy, L: Policy>(
     policies: &mut Policies<T, C, L>,
     reply: &mut Reply,
 )
-    ensures { Does (asked call.now) (model_of workspace.old) (told reply.new) (model_of workspace.new) }
+    ensures does { Does (asked call.now) (model_of workspace.old) (told reply.new) (model_of workspace.new) }
+    ensures policies { EmptyOrSame T.pending C.pending L.pending policies.old policies.new }
 {
     *reply = perform(workspace, call, policies);
 }
@@ -57,7 +60,8 @@ fn perform<T: Policy, C: Policy, L: Policy>(
     call: &Call,
     policies: &mut Policies<T, C, L>,
 ) -> Reply
-    ensures { Does (asked call.now) (model_of workspace.old) (told result) (model_of workspace.new) }
+    ensures does { Does (asked call.now) (model_of workspace.old) (told result) (model_of workspace.new) }
+    ensures policies { EmptyOrSame T.pending C.pending L.pending policies.old policies.new }
 {
     match call {
         Call::Load(file) => load(workspace, file, policies),
@@ -87,7 +91,8 @@ fn load<T: Policy, C: Policy, L: Policy>(
     file: &[u8],
     policies: &mut Policies<T, C, L>,
 ) -> Reply
-    ensures { Does (load file.now) (model_of workspace.old) (told result) (model_of workspace.new) }
+    ensures does { Does (load file.now) (model_of workspace.old) (told result) (model_of workspace.new) }
+    ensures policies { EmptyOrSame T.pending C.pending L.pending policies.old policies.new }
 {
     match workspace.load(file, policies) {
         Ok(()) => Reply::Loaded,
@@ -111,7 +116,8 @@ fn propose<T: Policy, C: Policy, L: Policy>(
     instr: Instr,
     policies: &mut Policies<T, C, L>,
 ) -> Reply
-    ensures { Does (propose depth place instr) (model_of workspace.old) (told result) (model_of workspace.new) }
+    ensures does { Does (propose depth place instr) (model_of workspace.old) (told result) (model_of workspace.new) }
+    ensures policies { EmptyOrSame T.pending C.pending L.pending policies.old policies.new }
 {
     let attempt = Attempt { depth };
     let result = workspace.propose(&attempt, place, instr, policies);
@@ -127,7 +133,8 @@ fn tidy<T: Policy, C: Policy, L: Policy>(
     depth: u8,
     policies: &mut Policies<T, C, L>,
 ) -> Reply
-    ensures { Does (tidy depth) (model_of workspace.old) (told result) (model_of workspace.new) }
+    ensures does { Does (tidy depth) (model_of workspace.old) (told result) (model_of workspace.new) }
+    ensures policies { EmptyOrSame T.pending C.pending L.pending policies.old policies.new }
 {
     let attempt = Attempt { depth };
     let result = workspace.tidy(&attempt, policies);
@@ -152,7 +159,8 @@ fn abandon<T: Policy, C: Policy, L: Policy>(
     depth: u8,
     policies: &mut Policies<T, C, L>,
 ) -> Reply
-    ensures { Does (abandon depth) (model_of workspace.old) (told result) (model_of workspace.new) }
+    ensures does { Does (abandon depth) (model_of workspace.old) (told result) (model_of workspace.new) }
+    ensures policies { EmptyOrSame T.pending C.pending L.pending policies.old policies.new }
 {
     match workspace.abandon(Attempt { depth }, policies) {
         Ok(()) => Reply::Abandoned,

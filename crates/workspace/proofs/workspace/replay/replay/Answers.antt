@@ -2,6 +2,7 @@ use Rattle.std.proofs.Common.{◌<◌, length, arith}
 use Rattle.std.proofs.lemmas.List.{drop-set-lt}
 use Rattle.workspace.specs.Stored.{model_of}
 use Rattle.workspace.proofs.Promise.{promise_kept}
+use Rattle.workspace.proofs.LeftPolicies.{left_after}
 use Rattle.workspace.proofs.Replayed.{replayed_more, replayed_all, history_calls}
 use Rattle.workspace.proofs.workspace.replay.replay.Goals as goal
 
@@ -24,7 +25,17 @@ loop-i-preserved g c =
           c.loop-i-test.true
           room
           c.loop-i.invariant.made
-          c.enter.ensures;
+          c.enter.ensures.does;
+      policies =
+          left_after
+          g.T.Policy.pending
+          g.C.Policy.pending
+          g.L.Policy.pending
+          c.args.policies.now
+          c.loop-i.policies
+          c.enter.new.policies
+          c.loop-i.invariant.policies
+          c.enter.ensures.policies;
       rest = rw (drop-set-lt (length calls) replies i c.enter.new.reply c.loop-i-test.true) c.loop-i.invariant.rest;
     }
 
