@@ -1,0 +1,11 @@
+pub mod Arithmetic
+pub mod Below
+pub mod Units
+pub mod Least
+pub mod StraightCode
+pub mod Small
+pub mod Answering
+pub mod Tidying
+pub mod FiveTidied
+pub mod Loads
+pub mod Solvable
