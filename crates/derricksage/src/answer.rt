@@ -1,8 +1,8 @@
 //! What a line of a script answers where it is done.
-use crate::pick::PickName;
-use crate::side::Side;
 use bytecode::unit::Unit;
 use machine::answer::Answer as RunAnswer;
+use tokens::pick::PickName;
+use tokens::side::Side;
 use workspace::shown::{Facts, TakeCounts};
 
 #[derive(Drop)]

@@ -1,6 +1,6 @@
 //! The words of the command line.
 use crate::error::Error;
-use crate::number::InRange;
+use listings::number::InRange;
 use std::alloc::Global;
 use std::fmt;
 

@@ -1,9 +1,10 @@
 //! Why a line of a script is not done.
 use crate::print::{NotLoaded, Refused};
 use std::alloc::AllocError;
+use tokens::fault::TokenFault;
 use workspace::refusal::{LoadFault, Refusal};
 
-/// Why a line of a script is not done. All but want of memory is an answer.
+/// All but want of memory is an answer.
 #[derive(Debug, Drop, thiserror::Error)]
 pub enum Denied {
     #[error("{}", Refused(*.0))]
@@ -18,4 +19,14 @@ pub enum Denied {
     BadLine(usize),
     #[error("not enough memory")]
     Memory(#[from(alloc)] AllocError),
+}
+
+impl From<TokenFault> for Denied {
+    fn from(fault: TokenFault) -> Denied {
+        match fault {
+            TokenFault::Refused(refusal) => Denied::Refused(refusal),
+            TokenFault::NoSuchToken => Denied::NoSuchToken,
+            TokenFault::Memory(error) => Denied::Memory(error),
+        }
+    }
 }

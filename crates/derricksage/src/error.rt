@@ -1,44 +1,13 @@
 //! Why a command fails. Each error prints as one line: it begins with the file's name where a file is at fault, else with the program's.
 use crate::command::Usage;
 use crate::denied::Denied;
-use crate::mnemonic::Mnemonic;
 use analyses::verify::VerifierFault;
 use bytecode::fault::ReadFault;
 use facts::cell::TypeCell;
 use facts::frame::Frame;
+use listings::fault::TextFault;
 use std::alloc::AllocError;
 use std::io;
-
-/// Why a line of a listing says no instruction, or a line of a script nothing.
-#[derive(Debug, Drop, thiserror::Error)]
-pub enum LineFault {
-    #[error("the first line must be \"locals L\"")]
-    NoLocals,
-    #[error("there is no instruction after the place")]
-    NoInstruction,
-    /// The place that the line should say.
-    #[error("the place of this instruction is {0}")]
-    WrongPlace(usize),
-    #[error("no instruction is named {0:?}")]
-    UnknownName(String),
-    #[error("{} takes {}", .0.name, .0.operands)]
-    WrongOperands(Mnemonic),
-    /// A word that is no number of its range.
-    #[error("{word:?} is not {range}")]
-    NotNumber { word: String, range: &'static str },
-    #[error("this is no line of a script")]
-    NoStep,
-    #[error("not enough memory")]
-    Memory(#[from(alloc)] AllocError),
-}
-
-/// Why a text is no listing, and the line, counted from 1, that shows it.
-#[derive(Debug, Drop, thiserror::Error)]
-#[error("{line}: {fault}")]
-pub struct TextFault {
-    pub line: usize,
-    pub fault: LineFault,
-}
 
 /// Why a command fails.
 // No `anyhow::Error`: its line begins with the file that is at fault, or with the program.

@@ -4,23 +4,14 @@
 mod answer;
 mod command;
 mod denied;
-mod desk;
-mod desks;
 mod error;
 mod known;
-mod listing;
-mod mnemonic;
-mod number;
 mod perform;
-mod pick;
 mod play;
 mod print;
 mod script;
-mod side;
 mod source;
-mod table;
 mod tidy;
-mod token;
 mod trace;
 
 use crate::error::Error;

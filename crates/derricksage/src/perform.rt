@@ -1,15 +1,16 @@
 //! What each command does. Nothing is printed or written before all that can be refused is right.
+use crate::command;
 use crate::command::{Command, HelpText};
 use crate::error::Error;
 use crate::known::Known;
-use crate::listing::{Listing, file_of};
 use crate::play::play;
 use crate::print::{RunLine, UnitListing};
 use crate::tidy::tidy;
 use crate::trace::trace;
-use crate::{command, listing};
 use bytecode::read::read;
 use bytecode::unit::Unit;
+use listings::listing;
+use listings::listing::{Listing, file_of};
 use machine::run::run;
 use std::rt::Files;
 use std::{fs, io};

@@ -1,16 +1,16 @@
 //! Plays a script: makes its calls, and prints each line with its answer.
 use crate::answer::Answer;
 use crate::denied::Denied;
-use crate::desk::Spend;
 use crate::error::Error;
-use crate::pick::{PickName, Picks};
 use crate::script;
 use crate::script::{Change, Entry, Look, Step};
-use crate::side::Side;
 use crate::source::{name_of, read_bytes, read_text};
-use crate::table::Table;
 use std::alloc::Global;
 use std::rt::Files;
+use tokens::pick::{PickName, Picks};
+use tokens::side::Side;
+use tokens::spend::Spend;
+use tokens::table::Table;
 use workspace::workspace::Workspace;
 
 /// What the next call of a script is given.

@@ -3,13 +3,13 @@ ghost use Rattle.std.specs.Prelude.{◌<◌};
 
 use crate::answer::Answer;
 use crate::known::Known;
-use crate::mnemonic::{MNEMONICS, Mnemonic, Operands};
 use bytecode::fault::ReadFault;
 use bytecode::instr::Instr;
 use bytecode::jump::target;
 use bytecode::unit::Unit;
 use bytecode::word::Word;
 use facts::live::LiveSet;
+use listings::mnemonic::{MNEMONICS, Mnemonic, Operands};
 use machine::answer::Answer as RunAnswer;
 use rewrite::yields::lowest_rule;
 use std::fmt;

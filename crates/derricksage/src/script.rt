@@ -1,11 +1,11 @@
 //! A script: a call a line, and lines that say what the calls are given.
-use crate::error::LineFault;
-use crate::listing;
-use crate::listing::{file_of, number, spelled, words_of};
-use crate::pick::PickName;
-use crate::side::Side;
 use bytecode::instr::Instr;
+use listings::fault::LineFault;
+use listings::listing;
+use listings::listing::{file_of, number, spelled, words_of};
 use std::alloc::{AllocError, Global};
+use tokens::pick::PickName;
+use tokens::side::Side;
 
 // As in a listing `heap` goes from call to call.
 
@@ -70,6 +70,29 @@ pub struct Entry<'t> {
     pub step: Step<'t>,
 }
 
+/// Why a line is none of a script.
+#[derive(Drop)]
+enum StepFault {
+    NoStep,
+    Memory(AllocError),
+}
+
+impl From<LineFault> for StepFault {
+    fn from(fault: LineFault) -> StepFault {
+        if matches!(&fault, LineFault::Memory(_)) {
+            StepFault::Memory(AllocError)
+        } else {
+            StepFault::NoStep
+        }
+    }
+}
+
+impl From<AllocError> for StepFault {
+    fn from(error: AllocError) -> StepFault {
+        StepFault::Memory(error)
+    }
+}
+
 /// The lines of a listing that stands in the script.
 #[derive(Drop)]
 struct Block<'t> {
@@ -125,11 +148,11 @@ fn before_comment(line: &str) -> &str {
 }
 
 /// A line that asks for nothing; only want of memory is an error.
-fn bad<'t>(fault: LineFault, line: usize) -> Result<Step<'t>, AllocError> {
-    if matches!(&fault, LineFault::Memory(_)) {
-        return Err(AllocError);
+fn bad<'t>(fault: StepFault, line: usize) -> Result<Step<'t>, AllocError> {
+    match fault {
+        StepFault::NoStep => Ok(Step::Bad(line)),
+        StepFault::Memory(error) => Err(error),
     }
-    Ok(Step::Bad(line))
 }
 
 /// The bytes that a whole listing says.
@@ -141,20 +164,23 @@ fn whole(heap: Global, block: Block<'_>) -> Result<Entry<'_>, AllocError> {
     } = block;
     let step = match listing::parse(heap, listing.as_str()) {
         Ok(listing) => Step::Bytes(file_of(heap, &listing)?),
-        Err(fault) => bad(fault.fault, line.saturating_add(fault.line))?,
+        Err(fault) => bad(
+            StepFault::from(fault.fault),
+            line.saturating_add(fault.line),
+        )?,
     };
     Ok(Entry { line, text, step })
 }
 
 /// What a line asks for.
-fn step_of(heap: Global, text: &str) -> Result<Step<'_>, LineFault> {
+fn step_of(heap: Global, text: &str) -> Result<Step<'_>, StepFault> {
     let words = words_of(heap, text)?;
     let [name, operands @ ..] = words.as_slice() else {
-        return Err(LineFault::NoStep);
+        return Err(StepFault::NoStep);
     };
     match (*name, operands) {
-        ("workspace", [side]) => Ok(Step::Workspace(Side::of(side).ok_or(LineFault::NoStep)?)),
-        ("policy", [name]) => Ok(Step::Policy(PickName::of(name).ok_or(LineFault::NoStep)?)),
+        ("workspace", [side]) => Ok(Step::Workspace(Side::of(side).ok_or(StepFault::NoStep)?)),
+        ("policy", [name]) => Ok(Step::Policy(PickName::of(name).ok_or(StepFault::NoStep)?)),
         ("bytes", digits) => Ok(Step::Bytes(bytes_of(heap, digits)?)),
         ("file", [name]) => Ok(Step::File(name)),
         ("run" | "write" | "facts" | "takes" | "list", operands) => {
@@ -165,7 +191,7 @@ fn step_of(heap: Global, text: &str) -> Result<Step<'_>, LineFault> {
 }
 
 /// The call that leaves the workspace as it is.
-fn look_of(heap: Global, name: &str, operands: &[&str]) -> Result<Look, LineFault> {
+fn look_of(heap: Global, name: &str, operands: &[&str]) -> Result<Look, StepFault> {
     match (name, operands) {
         ("run", [budget, room, inputs @ ..]) => Ok(Look::Run {
             budget: number(heap, budget)?,
@@ -179,44 +205,44 @@ fn look_of(heap: Global, name: &str, operands: &[&str]) -> Result<Look, LineFaul
         ("facts", [place]) => Ok(Look::Facts(number(heap, place)?)),
         ("takes", []) => Ok(Look::Takes),
         ("list", []) => Ok(Look::List),
-        _ => Err(LineFault::NoStep),
+        _ => Err(StepFault::NoStep),
     }
 }
 
 /// The call that may change the workspace.
-fn change_of(heap: Global, name: &str, operands: &[&str]) -> Result<Change, LineFault> {
+fn change_of(heap: Global, name: &str, operands: &[&str]) -> Result<Change, StepFault> {
     match (name, operands) {
         ("load", []) => Ok(Change::Load),
         ("open", []) => Ok(Change::Open),
         ("propose", [depth, place, instr @ ..]) => Ok(Change::Propose {
             depth: number(heap, depth)?,
             place: number(heap, place)?,
-            instr: Instr::try_from(spelled(heap, instr)?).map_err(|_| LineFault::NoStep)?,
+            instr: Instr::try_from(spelled(heap, instr)?).map_err(|_| StepFault::NoStep)?,
         }),
         ("tidy", [depth]) => Ok(Change::Tidy(number(heap, depth)?)),
         ("keep", [depth]) => Ok(Change::Keep(number(heap, depth)?)),
         ("abandon", [depth]) => Ok(Change::Abandon(number(heap, depth)?)),
-        _ => Err(LineFault::NoStep),
+        _ => Err(StepFault::NoStep),
     }
 }
 
 /// The bytes of two hex digits each, in words of any length.
-fn bytes_of(heap: Global, words: &[&str]) -> Result<Vec<u8>, LineFault> {
+fn bytes_of(heap: Global, words: &[&str]) -> Result<Vec<u8>, StepFault> {
     let mut bytes = Vec::new(heap);
     let mut high = None;
     for letter in words.iter().flat_map(|word| word.chars()) {
-        let digit = digit(letter).ok_or(LineFault::NoStep)?;
+        let digit = digit(letter).ok_or(StepFault::NoStep)?;
         high = match high {
             None => Some(digit),
             Some(high) => {
-                bytes.push(high << 4 | digit)?;
+                bytes.push(high << 4 | digit).map_err(AllocError::from)?;
                 None
             }
         };
     }
     match high {
         None => Ok(bytes),
-        Some(_) => Err(LineFault::NoStep),
+        Some(_) => Err(StepFault::NoStep),
     }
 }
 

@@ -1,15 +1,15 @@
 //! Tidies a unit file in one attempt.
 use crate::answer::Answer;
 use crate::denied::Denied;
-use crate::desk::Spend;
 use crate::error::Error;
 use crate::perform::in_file;
-use crate::pick::PickName;
-use crate::side::Side;
-use crate::table::Table;
 use std::alloc::Global;
 use std::fs;
 use std::rt::Files;
+use tokens::pick::PickName;
+use tokens::side::Side;
+use tokens::spend::Spend;
+use tokens::table::Table;
 
 /// What the steps answered, and the file of the tidied unit.
 #[derive(Drop)]

@@ -2,7 +2,6 @@
 ghost use Rattle.std.specs.Prelude.{◌≡◌, ◌<◌, length, vec_len, IfOk, IfSome};
 
 use crate::error::Error;
-use crate::pick::PickName;
 use crate::print::Shown;
 use crate::script;
 use crate::script::{Change, Entry, Look, Step};
@@ -10,6 +9,7 @@ use crate::source::{name_of, read_bytes, read_text};
 use bytecode::fault::TooShort;
 use std::alloc::{AllocError, Global};
 use std::rt::Files;
+use tokens::pick::PickName;
 use workspace::events::{Call, Reply};
 use workspace::workspace::replay::replay;
 

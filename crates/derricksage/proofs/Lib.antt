@@ -1,2 +1,0 @@
-pub mod Depths
-pub mod Counting

@@ -1,4 +1,0 @@
-pub mod Names
-pub mod Picks
-pub mod Tokens
-pub mod Opened
