@@ -1,7 +1,7 @@
 #!/bin/sh
 # Makes the edits that must not compile, proves every crate, tries the edits that must be refused, runs the program and the
-# tests, then the program's command-line cases, and then the comparison with the second machine and solver. Fails where an
-# edit could not be tried. Its last line is rt's own.
+# tests, then the program's command-line cases, the comparison with the second machine and solver, and the cases of the
+# clock. Fails where an edit could not be tried. Its last line is rt's own.
 cd "$(dirname "$0")/.." || exit 2
 log=$(mktemp) || exit 2
 trap 'rm -f "$log" "$log.status"' EXIT
@@ -14,4 +14,5 @@ if grep -Eq '^rt: ok.*, [0-9]+ bad' "$log"; then
 fi
 sh tests/cli/run.sh crates/derricksage/out/derricksage || exit 1
 sh tests/compare/run.sh || exit 1
+sh tests/clock/run.sh crates/clock/out/clock || exit 1
 tail -n 1 "$log"

@@ -1,5 +1,5 @@
 -- How the edges of each place are chained, from the last edge down. Assumes nothing.
-use Rattle.std.proofs.Common.{◌≡◌, ℕ, zero, suc, ◌+◌, ◌<◌, ◌≤◌, None, Some, Option, List, get_or, set, replicate, refl, sym, ap, ◌∙◌, subst, inl, inr, arith, get_or-set_other, get_or-set_same, length-set}
+use Rattle.std.proofs.Common.{◌≡◌, ℕ, zero, suc, ◌+◌, ◌<◌, ◌≤◌, None, Some, Option, List, length, get_or, set, replicate, refl, sym, ap, ◌∙◌, subst, inl, inr, arith, get_or-set_other, get_or-set_same, length-set}
 use Rattle.std.specs.Prelude.{◌≢◌}
 use Rattle.std.proofs.lemmas.Bool.{cases_eq}
 use Rattle.std.proofs.lemmas.List.{length-replicate}
@@ -28,10 +28,10 @@ module _ (key : ℕ → ℕ) (count : ℕ) where
   )
 
   -- no edge is chained yet
-  pub Chained-none : Chained key count count (replicate 128 None) (replicate 256 None)
-  Chained-none = record {
+  pub Chained-none : (next : List (Option ℕ)) → length next ≡ 256 → Chained key count count (replicate 128 None) next
+  Chained-none next room = record {
     places = length-replicate {A = Option ℕ} 128 None;
-    edges = length-replicate {A = Option ℕ} 256 None;
+    edges = room;
     firsts = λ v. rw (none_anywhere 128 v) (λ i from below. absurd (omega arith));
     nexts = λ i from below. absurd (omega arith);
   }

@@ -1,3 +1,4 @@
 pub mod Chained
 pub mod Tables
 pub mod Verdicts
+pub mod Clashes

@@ -32,20 +32,33 @@ pub(crate) struct Chains {
 }
 
 impl Chains {
-    // From the last edge down: the edge at hand is the lowest so far of its place.
     pub(crate) fn new(edges: &[Edge], side: Side) -> Chains
         requires few { length edges.now ≤ 256 }
         requires within { (e : ℕ) → e < length edges.now → key_at side edges.now e < 128 }
         ensures { Chained (key_at side edges.now) (length edges.now) 0 result.first result.next }
     {
-        let mut first = [None; 128];
-        let mut next = [None; 256];
+        let mut chains = Chains {
+            first: [None; 128],
+            next: [None; 256],
+        };
+        chains.fill(edges, side);
+        chains
+    }
+
+    /// Turns to other edges. What it held past them stays.
+    // From the last edge down: the edge at hand is the lowest so far of its place.
+    pub(crate) fn fill(&mut self, edges: &[Edge], side: Side)
+        requires few { length edges.now ≤ 256 }
+        requires within { (e : ℕ) → e < length edges.now → key_at side edges.now e < 128 }
+        requires room { length self.old.next ≡ 256 }
+        ensures { Chained (key_at side edges.now) (length edges.now) 0 self.new.first self.new.next }
+    {
+        self.first = [None; 128];
         for edge in (0..edges.len()).rev() {
             let place = side.of(&edges[edge]);
-            next[edge] = first[place];
-            first[place] = Some(edge as u8);
+            self.next[edge] = self.first[place];
+            self.first[place] = Some(edge as u8);
         }
-        Chains { first, next }
     }
 }
 

@@ -32,6 +32,7 @@ impl Analysis for Constants {
         graph.edge_count()
     }
 
+    #[inline(always)]
     fn edge(graph: &Graph, edge: usize) -> (usize, usize) {
         let edge = graph.edge(edge);
         (edge.start, edge.end)
@@ -49,23 +50,32 @@ impl Analysis for Constants {
         Frame::Unreached
     }
 
-    fn join(_graph: &Graph, a: Frame<ConstCell>, b: Frame<ConstCell>) -> Frame<ConstCell> {
-        a.join(&b)
+    #[inline(always)]
+    fn join(_graph: &Graph, into: &mut Frame<ConstCell>, fact: &Frame<ConstCell>) -> bool {
+        into.join(fact)
     }
 
-    fn same(_graph: &Graph, a: Frame<ConstCell>, b: Frame<ConstCell>) -> bool {
-        a.same(&b)
+    fn same(_graph: &Graph, a: &Frame<ConstCell>, b: &Frame<ConstCell>) -> bool {
+        a.same(b)
     }
 
-    fn carry(graph: &Graph, edge: usize, fact: Frame<ConstCell>) -> Frame<ConstCell> {
+    #[inline(always)]
+    fn is_least(_graph: &Graph, fact: &Frame<ConstCell>) -> bool {
+        !fact.is_reached()
+    }
+
+    #[inline(always)]
+    fn carry(graph: &Graph, edge: usize, fact: &mut Frame<ConstCell>) {
         let edge = graph.edge(edge);
-        carry_constants(graph.instr(edge.start), edge.jump, &fact)
+        carry_constants(graph.instr(edge.start), edge.jump, fact);
     }
 
+    #[inline(always)]
     fn first_edge(graph: &Graph, node: usize) -> Option<usize> {
         graph.first_out(node)
     }
 
+    #[inline(always)]
     fn next_edge(graph: &Graph, edge: usize) -> Option<usize> {
         graph.next_out(edge)
     }

@@ -50,19 +50,33 @@ impl Edges {
         }
     }
 
-    /// The edges of a unit, by their starts and then by their ends.
-    pub(crate) fn of(unit: &Unit) -> Edges
-        ensures { result ≡ edges_of unit.now }
+    fn clear(&mut self)
+        ensures { self.new ≡ [] }
     {
-        let mut edges = Edges::new();
+        self.count = 0;
+    }
+
+    /// Turns to the edges of a unit, by their starts and then by their ends.
+    pub(crate) fn fill(&mut self, unit: &Unit)
+        ensures { self.new ≡ edges_of unit.now }
+    {
+        self.clear();
         for place in 0..unit.len {
             let instr = unit.code[place];
             let next = way(unit.len, place, &instr, false);
             let jump = way(unit.len, place, &instr, true);
             let (first, second) = in_order(next, jump);
-            edges.push(first);
-            edges.push(second);
+            self.push(first);
+            self.push(second);
         }
+    }
+
+    /// The edges of a unit, by their starts and then by their ends.
+    pub(crate) fn of(unit: &Unit) -> Edges
+        ensures { result ≡ edges_of unit.now }
+    {
+        let mut edges = Edges::new();
+        edges.fill(unit);
         edges
     }
 

@@ -46,6 +46,16 @@ impl Graph {
         }
     }
 
+    /// Turns to another unit.
+    pub fn set(&mut self, unit: &Unit)
+        ensures { self.new ≡ unit.now }
+    {
+        self.unit.turn_to(unit);
+        self.edges.fill(unit);
+        self.out.fill(self.edges.as_slice(), Side::Start);
+        self.into.fill(self.edges.as_slice(), Side::End);
+    }
+
     pub fn unit(&self) -> &Unit
         ensures { result.now ≡ self.now }
     {

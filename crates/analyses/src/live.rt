@@ -42,16 +42,19 @@ impl Analysis for Live {
         LiveSet::new()
     }
 
-    fn join(_graph: &Graph, a: LiveSet, b: LiveSet) -> LiveSet {
-        a.union(b)
+    fn join(_graph: &Graph, into: &mut LiveSet, fact: &LiveSet) -> bool {
+        let joined = into.union(*fact);
+        let changed = !into.same(joined);
+        *into = joined;
+        changed
     }
 
-    fn same(_graph: &Graph, a: LiveSet, b: LiveSet) -> bool {
-        a.same(b)
+    fn same(_graph: &Graph, a: &LiveSet, b: &LiveSet) -> bool {
+        a.same(*b)
     }
 
-    fn carry(graph: &Graph, edge: usize, fact: LiveSet) -> LiveSet {
-        carry_live(graph.instr(graph.edge(edge).end), fact)
+    fn carry(graph: &Graph, edge: usize, fact: &mut LiveSet) {
+        *fact = carry_live(graph.instr(graph.edge(edge).end), *fact);
     }
 
     fn first_edge(graph: &Graph, node: usize) -> Option<usize> {

@@ -32,6 +32,7 @@ impl Analysis for Types {
         graph.edge_count()
     }
 
+    #[inline(always)]
     fn edge(graph: &Graph, edge: usize) -> (usize, usize) {
         let edge = graph.edge(edge);
         (edge.start, edge.end)
@@ -49,22 +50,31 @@ impl Analysis for Types {
         Frame::Unreached
     }
 
-    fn join(_graph: &Graph, a: Frame<TypeCell>, b: Frame<TypeCell>) -> Frame<TypeCell> {
-        a.join(&b)
+    #[inline(always)]
+    fn join(_graph: &Graph, into: &mut Frame<TypeCell>, fact: &Frame<TypeCell>) -> bool {
+        into.join(fact)
     }
 
-    fn same(_graph: &Graph, a: Frame<TypeCell>, b: Frame<TypeCell>) -> bool {
-        a.same(&b)
+    fn same(_graph: &Graph, a: &Frame<TypeCell>, b: &Frame<TypeCell>) -> bool {
+        a.same(b)
     }
 
-    fn carry(graph: &Graph, edge: usize, fact: Frame<TypeCell>) -> Frame<TypeCell> {
-        carry_types(graph.instr(graph.edge(edge).start), &fact)
+    #[inline(always)]
+    fn is_least(_graph: &Graph, fact: &Frame<TypeCell>) -> bool {
+        !fact.is_reached()
     }
 
+    #[inline(always)]
+    fn carry(graph: &Graph, edge: usize, fact: &mut Frame<TypeCell>) {
+        carry_types(graph.instr(graph.edge(edge).start), fact);
+    }
+
+    #[inline(always)]
     fn first_edge(graph: &Graph, node: usize) -> Option<usize> {
         graph.first_out(node)
     }
 
+    #[inline(always)]
     fn next_edge(graph: &Graph, edge: usize) -> Option<usize> {
         graph.next_out(edge)
     }

@@ -85,10 +85,11 @@ fn a_sum_of_a_flag_varies(rt: HostRuntime) {
         value: true,
     };
     let three = Instr::Lit { drops: 0, value: 3 };
-    let frame = carry_constants(flag, false, &Frame::entry());
+    let mut frame = Frame::entry();
+    carry_constants(flag, false, &mut frame);
     assert!(rt; bottom(&frame, 1) == Some(ConstCell::Flag(true)));
-    let frame = carry_constants(three, false, &frame);
-    let frame = carry_constants(Instr::Add, false, &frame);
+    carry_constants(three, false, &mut frame);
+    carry_constants(Instr::Add, false, &mut frame);
     assert!(rt; bottom(&frame, 1) == Some(ConstCell::Varies));
 }
 
@@ -98,11 +99,17 @@ fn unlike_frames_are_joined(rt: HostRuntime) {
         drops: 0,
         value: true,
     };
-    let number = carry_types(Instr::In, &Frame::entry());
-    let flag = carry_types(flag, &Frame::entry());
-    let two = carry_types(Instr::In, &number);
+    let mut number = Frame::entry();
+    carry_types(Instr::In, &mut number);
+    let mut other = Frame::entry();
+    carry_types(flag, &mut other);
+    let mut two = number;
+    carry_types(Instr::In, &mut two);
     assert!(rt; bottom(&number, 1) == Some(TypeCell::Num));
-    assert!(rt; bottom(&flag, 1) == Some(TypeCell::Flag));
-    assert!(rt; bottom(&number.join(&flag), 1) == Some(TypeCell::Unusable));
-    assert!(rt; number.join(&two).same(&Frame::Clash));
+    assert!(rt; bottom(&other, 1) == Some(TypeCell::Flag));
+    assert!(rt; other.join(&number));
+    assert!(rt; bottom(&other, 1) == Some(TypeCell::Unusable));
+    assert!(rt; !other.join(&number));
+    assert!(rt; two.join(&number));
+    assert!(rt; two.same(&Frame::Clash));
 }

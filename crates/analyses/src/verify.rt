@@ -1,5 +1,6 @@
 //! The verifier: which units cannot get stuck.
 ghost use Rattle.std.specs.Prelude.{◌≡◌, ℕ, ◌<◌, MatchResult};
+ghost use Rattle.dataflow.specs.Analysis.{Solution};
 ghost use Rattle.dataflow.specs.Takes.{at, Solved};
 ghost use Rattle.facts.specs.Frames.{Fitting};
 ghost use Rattle.analyses.specs.Frameworks.{types_of};
@@ -60,8 +61,22 @@ pub fn verify<P: Policy>(
         × Refused graph.now (at (types_of graph.now) facts.new) fault) }
 {
     let takes = solution::<Types, P>(graph, policy, facts);
-    judge(graph, facts)?;
+    judge_solved(graph, facts)?;
     Ok(takes)
+}
+
+/// What the type frames at its places say of a unit if they solve the equations of its types. `judge` says it of any frames, and takes longer.
+// An instruction that is not applicable leads on, and carries Clash there. So where no frame is Clash all are applicable.
+pub fn judge_solved(graph: &Graph, facts: &[Frame<TypeCell>; 128]) -> Result<(), VerifierFault>
+    ensures { Solution Fitting (types_of graph.now) (at (types_of graph.now) facts.now) → Judged graph.now (at (types_of graph.now) facts.now) result }
+{
+    let count = graph.unit().len;
+    for place in 0..count {
+        if matches!(facts[place], Frame::Clash) {
+            return judge(graph, facts);
+        }
+    }
+    Ok(())
 }
 
 /// What the type frames at its places say of a unit.

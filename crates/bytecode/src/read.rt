@@ -1,5 +1,6 @@
 //! A unit from a file's bytes.
-ghost use Rattle.std.specs.Prelude.{◌≡◌, ◌<◌, MatchResult};
+ghost use Rattle.std.specs.Prelude.{◌≡◌, ◌<◌, replicate, MatchResult};
+ghost use Rattle.bytecode.specs.declared.instr.Instr.TheVariants.{Nop};
 ghost use Rattle.bytecode.specs.Files.{Sized, Framed, FileGets, Decoded, LowestBad, CodeRead, Outcome, Only, WritesBack};
 
 use crate::fault::{FileFault, ReadFault, UnitFault};
@@ -42,17 +43,18 @@ fn decode(part: [u8; 6], site: Site) -> Result<Instr, UnitFault>
     }
 }
 
-/// The code of a file of `len` instructions.
-fn read_code(file: &[u8], len: usize) -> Result<[Instr; 128], UnitFault>
-    requires { Sized file.now len }
-    ensures { MatchResult result (CodeRead file.now len) (λ fault. LowestBad file.now len fault.place) }
+/// Reads the code of a file of `len` instructions into an array of NOP. What a refusal leaves there is not told.
+// Into the caller's array: returned, it would be moved several times.
+fn read_code(file: &[u8], len: usize, code: &mut [Instr; 128]) -> Result<(), UnitFault>
+    requires sized { Sized file.now len }
+    requires blank { code.old ≡ replicate 128 Nop }
+    ensures { MatchResult result (λ _. CodeRead file.now len code.new) (λ fault. LowestBad file.now len fault.place) }
 {
     let locals = file[1];
-    let mut code = [Instr::Nop; 128];
     for (place, part) in Parts::new(&file[4..]) {
         code[place] = decode(*part, Site { locals, place, len })?;
     }
-    Ok(code)
+    Ok(())
 }
 
 /// The unit that a file's bytes are.
@@ -62,7 +64,8 @@ pub fn read(file: &[u8]) -> Result<Unit, ReadFault>
     ensures back { WritesBack file.now result }
 {
     let len = frame(file)?;
-    let code = read_code(file, len)?;
+    let mut code = [Instr::Nop; 128];
+    read_code(file, len, &mut code)?;
     Ok(Unit {
         locals: file[1],
         len,

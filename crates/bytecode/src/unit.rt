@@ -1,5 +1,5 @@
 //! One routine: validated code.
-ghost use Rattle.std.specs.Prelude.{◌≡◌, ℕ, ◌<◌, ◌≤◌, true, length, slice_index_or};
+ghost use Rattle.std.specs.Prelude.{◌≡◌, ℕ, ◌<◌, ◌≤◌, true, ◌++◌, length, take, drop, slice_index_or};
 ghost use Rattle.bytecode.specs.declared.instr.Instr.TheVariants.{Nop};
 ghost use Rattle.bytecode.specs.Instructions.{sound};
 
@@ -21,7 +21,32 @@ pub struct Unit {
 }
 
 impl Unit {
+    ghost use Rattle.std.specs.Prelude.{[], ◌∷◌};
+    ghost use Rattle.bytecode.specs.declared.instr.Instr.TheVariants.{Halt};
     ghost use Rattle.bytecode.specs.Files.{held};
+
+    /// HALT alone, over no local.
+    pub fn halt() -> Unit
+        ensures code { held result ≡ Halt ∷ [] }
+        ensures locals { result.locals ≡ 0 }
+    {
+        let mut code = [Instr::Nop; 128];
+        code[0] = Instr::Halt;
+        Unit {
+            locals: 0,
+            len: 1,
+            code,
+        }
+    }
+
+    /// Turns to another unit. Only as many instructions are copied as the longer of the two has.
+    pub fn turn_to(&mut self, other: &Unit)
+        ensures { self.new ≡ other.now }
+    {
+        copy_first(&mut self.code, &other.code, self.len.max(other.len));
+        self.locals = other.locals;
+        self.len = other.len;
+    }
 
     /// The instructions of the routine.
     pub fn instructions(&self) -> &[Instr]
@@ -29,4 +54,12 @@ impl Unit {
     {
         &self.code[..self.len]
     }
+}
+
+/// Copies the first instructions of an array to another.
+fn copy_first(to: &mut [Instr; 128], from: &[Instr; 128], count: usize)
+    requires { count ≤ 128 }
+    ensures { to.new ≡ take count from.now ++ drop count to.old }
+{
+    to[..count].copy_from_slice(&from[..count]);
 }

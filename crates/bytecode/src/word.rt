@@ -2,6 +2,7 @@
 ghost use Rattle.std.specs.Prelude.{◌≡◌, ◌↔◌, IsTrue};
 ghost use Rattle.bytecode.specs.Instructions.{word};
 ghost use Rattle.bytecode.specs.Layout.{encoded};
+ghost use Rattle.bytecode.specs.declared.word.Word.{Word as TheWord};
 ghost use Rattle.bytecode.specs.Equality.{same_instr, same_instr_laws};
 
 use crate::instr::Instr;
@@ -13,6 +14,31 @@ pub struct Word {
     pub op: u8,
     pub drops: u8,
     pub arg: i32,
+}
+
+/// What six bytes of a file spell.
+pub(crate) trait Spelled: Copy {
+    // Its word.
+    ghost spelling: { Self → TheWord };
+
+    fn word(self) -> Word
+        ensures { result ≡ spelling self };
+}
+
+impl Spelled for Word {
+    ghost spelling = { λ w. w };
+
+    fn word(self) -> Word {
+        self
+    }
+}
+
+impl Spelled for Instr {
+    ghost spelling = { word };
+
+    fn word(self) -> Word {
+        Word::from(self)
+    }
 }
 
 impl From<Instr> for Word {

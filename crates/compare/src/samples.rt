@@ -92,11 +92,14 @@ fn add_joins(heap: Global, samples: &mut Vec<Sample>) -> Result<(), AllocError> 
         got: format!(in heap; "{}", TypeCell::Num.join(TypeCell::Flag))?,
         wanted: "Unusable",
     })?;
-    let one = carry_types(ZERO, &Frame::entry());
-    let two = carry_types(ZERO, &one);
+    let mut one = Frame::entry();
+    carry_types(ZERO, &mut one);
+    let mut joined = one;
+    carry_types(ZERO, &mut joined);
+    joined.join(&one);
     samples.push(Sample {
         name: "heights 1 and 2 joined",
-        got: format!(in heap; "{}", one.join(&two))?,
+        got: format!(in heap; "{joined}")?,
         wanted: "Clash",
     })?;
     samples.push(Sample {
@@ -285,7 +288,7 @@ fn added_to_a_flag() -> Frame<ConstCell> {
     let three = Instr::Lit { drops: 0, value: 3 };
     let mut frame = Frame::entry();
     for instr in [flag, three, Instr::Add] {
-        frame = carry_constants(instr, false, &frame);
+        carry_constants(instr, false, &mut frame);
     }
     frame
 }

@@ -3,6 +3,6 @@ pub mod Gather
 pub mod Potential
 pub mod Between
 pub mod Running
+pub mod Solvable
 pub mod Spreading
-pub mod Masks
 pub mod Queues

@@ -1,6 +1,5 @@
 -- The nodes of a queue, the one that was added longest ago first. Assumes nothing.
-use Rattle.std.specs.Prelude.{◌≡◌, ℕ, ◌<◌, ◌≤◌, Bool, true, false, ◌||◌, ◌==◌, List, [], ◌∷◌, ◌++◌, take, drop, length, count_ones, Option, Some, None}
-use Rattle.dataflow.specs.Mask.{has_bit}
+use Rattle.std.specs.Prelude.{◌≡◌, ℕ, ◌<◌, ◌≤◌, Bool, true, false, ◌||◌, ◌==◌, List, [], ◌∷◌, ◌++◌, take, drop, length, cond, slice_index_or, ◌+◌, Option, Some, None}
 
 -- v is one of the nodes
 abbrev pub is_member : List ℕ → ℕ → Bool
@@ -21,15 +20,20 @@ StandsOnce (x ∷ xs) = (is_member xs x ≡ false) × StandsOnce xs
 abbrev pub window : ℕ → ℕ → List ℕ → List ℕ
 window k n slots = take n (drop k slots ++ take k slots)
 
--- the bits are those of the nodes, which are below 128
-pub record IsMarked (nodes : List ℕ) (bits : ℕ) : Type 0 where
+-- how many are marked
+abbrev pub marks_made : List Bool → ℕ
+marks_made [] = 0
+marks_made (b ∷ bs) = cond b 1 0 + marks_made bs
+
+-- the nodes, which are below 128, are marked, and no others
+pub record IsMarked (nodes : List ℕ) (marks : List Bool) : Type 0 where
   pub below : (v : ℕ) → is_member nodes v ≡ true → v < 128
   pub once : StandsOnce nodes
-  pub marked : (v : ℕ) → has_bit bits v ≡ is_member nodes v
-  pub counted : count_ones bits ≡ length nodes
+  pub marked : (v : ℕ) → slice_index_or marks v false ≡ is_member nodes v
+  pub counted : marks_made marks ≡ length nodes
 
--- 128 slots, of which the len from head on hold the nodes, and the bits of those nodes
-pub record IsRing (head len : ℕ) (slots : List ℕ) (bits : ℕ) : Type 0 where
+-- 128 slots, of which the len from head on hold the nodes, and the marks of those nodes
+pub record IsRing (head len : ℕ) (slots : List ℕ) (marks : List Bool) : Type 0 where
   pub head_within : head < 128
   pub len_within : len ≤ 128
-  pub queue : IsMarked (window head len slots) bits
+  pub queue : IsMarked (window head len slots) marks

@@ -3,19 +3,18 @@ ghost use Rattle.std.specs.Prelude.{◌≡◌, ℕ, ◌<◌, ◌≤◌, true, fa
 ghost use Rattle.dataflow.specs.FirstIn.{is_member, TakesFirst};
 ghost use Rattle.dataflow.specs.Pending.{IsEmpty, Adds, Takes};
 
-use crate::mask::Mask;
 use crate::policy::Policy;
 use std::marker::Model;
 
-/// Takes the pending node that was added longest ago. No call goes over the nodes.
+/// Takes the pending node that was added longest ago. No call but `clear` goes over the nodes.
 #[derive(Drop)]
 pub struct FirstIn {
     // A ring: the first node is at `head`, and the next is behind it, around the end.
     slots: [u8; 128],
     head: usize,
     len: usize,
-    // The nodes in the ring, so that `add` need not go over them.
-    mask: Mask,
+    // Whether each node is in the ring, so that `add` need not go over them.
+    marks: [bool; 128],
 }
 
 impl Model for FirstIn {
@@ -27,7 +26,7 @@ impl Model for FirstIn {
 
     ghost view = { λ q. window q.head q.len q.slots };
 
-    ghost invariant = { λ q. IsRing q.head q.len q.slots q.mask };
+    ghost invariant = { λ q. IsRing q.head q.len q.slots q.marks };
 }
 
 impl FirstIn {
@@ -39,7 +38,7 @@ impl FirstIn {
             slots: [0; 128],
             head: 0,
             len: 0,
-            mask: Mask::new(),
+            marks: [false; 128],
         }
     }
 }
@@ -52,7 +51,7 @@ impl Policy for FirstIn {
         ensures queue { self.new ≡ [] }
     {
         self.len = 0;
-        self.mask = Mask::new();
+        self.marks = [false; 128];
     }
 
     fn add(&mut self, node: usize) -> bool
@@ -64,8 +63,8 @@ impl Policy for FirstIn {
         if node >= 128 {
             return false;
         }
-        if !self.mask.contains(node) {
-            self.mask = self.mask.with(node);
+        if !self.marks[node] {
+            self.marks[node] = true;
             self.slots[(self.head + self.len) % 128] = node as u8;
             self.len += 1;
         }
@@ -82,7 +81,7 @@ impl Policy for FirstIn {
         let node = self.slots[self.head] as usize;
         self.head = (self.head + 1) % 128;
         self.len -= 1;
-        self.mask = self.mask.without(node);
+        self.marks[node] = false;
         Some(node)
     }
 }

@@ -1,55 +1,80 @@
 //! The policy that takes the highest node.
-ghost use Rattle.std.specs.Prelude.{ℕ, IfSome};
-ghost use Rattle.dataflow.specs.Highest.{IsHighest};
-ghost use Rattle.dataflow.specs.Mask.{has_bit};
+ghost use Rattle.std.specs.Prelude.{◌≡◌, ◌+◌, ◌<◌, ◌≤◌, true, IfSome, MatchOption};
+ghost use Rattle.dataflow.specs.Highest.{is_marked, NoneMarked, IsHighest};
 ghost use Rattle.dataflow.specs.Pending.{IsEmpty, Takes};
 
-use crate::mask::Mask;
 use crate::policy::Policy;
 use std::marker::Model;
 
-/// Takes the highest pending node. No call goes over the nodes.
+/// Takes the highest pending node.
 #[derive(Drop)]
 pub struct Highest {
-    mask: Mask,
+    // Whether each node is pending. Bits of a number would be shifted by two registers at each call.
+    marks: [bool; 128],
+    // Above every pending node, and where the next take begins to look.
+    end: usize,
 }
 
-// The number whose bits are the pending nodes.
 impl Model for Highest {
-    ghost Value = { ℕ };
+    ghost use Rattle.std.specs.Prelude.{List, Bool};
+    ghost use Rattle.dataflow.specs.Highest.{EndsAt};
 
-    ghost view = { λ h. h.mask };
+    // Whether each node is pending.
+    ghost Value = { List Bool };
+
+    ghost view = { λ h. h.marks };
+
+    ghost invariant = { λ h. EndsAt h.marks h.end };
 }
 
 impl Highest {
     pub fn new() -> Highest
-        ensures { IsEmpty (has_bit result) }
+        ensures { IsEmpty (is_marked result) }
     {
-        Highest { mask: Mask::new() }
+        Highest {
+            marks: [false; 128],
+            end: 0,
+        }
     }
 }
 
 impl Policy for Highest {
-    ghost pending = { has_bit };
+    ghost pending = { is_marked };
 
     fn clear(&mut self) {
-        self.mask = Mask::new();
+        self.marks = [false; 128];
+        self.end = 0;
     }
 
     fn add(&mut self, node: usize) -> bool {
         if node >= 128 {
             return false;
         }
-        self.mask = self.mask.with(node);
+        self.marks[node] = true;
+        self.end = self.end.max(node + 1);
         true
     }
 
     fn take(&mut self) -> Option<usize>
-        ensures taken { Takes (has_bit self.old) (has_bit self.new) result }
-        ensures highest { IfSome result (IsHighest (has_bit self.old)) }
+        ensures taken { Takes (is_marked self.old) (is_marked self.new) result }
+        ensures highest { IfSome result (IsHighest (is_marked self.old)) }
     {
-        let node = self.mask.highest()?;
-        self.mask = self.mask.without(node);
+        let node = highest_below(&self.marks, self.end)?;
+        self.marks[node] = false;
+        self.end = node;
         Some(node)
     }
+}
+
+/// The highest node below `end` that is marked, if one is.
+fn highest_below(marks: &[bool; 128], end: usize) -> Option<usize>
+    requires { end ≤ 128 }
+    ensures { MatchOption result (NoneMarked marks.now 0 end) (λ v. (v < end) × (is_marked marks.now v ≡ true) × NoneMarked marks.now (v + 1) end) }
+{
+    for node in (0..end).rev() {
+        if marks[node] {
+            return Some(node);
+        }
+    }
+    None
 }

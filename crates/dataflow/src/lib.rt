@@ -6,7 +6,6 @@ pub mod fault;
 pub mod first_in;
 pub mod highest;
 pub mod laws;
-mod mask;
 pub mod policy;
 #[cfg(test)]
 mod policy_tests;

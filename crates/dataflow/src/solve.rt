@@ -1,5 +1,5 @@
 //! The solver, one text for every analysis and every pick policy.
-ghost use Rattle.std.specs.Prelude.{◌≡◌, ℕ, ◌<◌, ◌≤◌, length, MatchResult};
+ghost use Rattle.std.specs.Prelude.{◌≡◌, ◌≢◌, ℕ, ◌<◌, ◌≤◌, false, length, IsTrue, MatchResult};
 ghost use Rattle.dataflow.specs.Takes.{at, Spreads, Seeded, AllPending, Carries, SamePast, AllValid, Solved};
 
 use crate::analysis::Analysis;
@@ -46,6 +46,7 @@ fn start<A: Analysis, P: Policy>(code: &A::Code, policy: &mut P, facts: &mut [A:
 }
 
 /// Carries the fact that `node` has along each edge out of it.
+#[inline(always)]
 fn spread<A: Analysis, P: Policy>(
     code: &A::Code,
     policy: &mut P,
@@ -63,33 +64,56 @@ fn spread<A: Analysis, P: Policy>(
     let fact = facts[node];
     let mut out = A::first_edge(code, node);
     while let Some(edge) = out {
-        carry_along::<A, P>(code, policy, facts, edge, fact);
+        carry_along::<A, P>(code, policy, facts, edge, &fact);
         out = A::next_edge(code, edge);
     }
 }
 
 /// Joins what `edge` carries of `fact` into the node that it goes to, which is pending if that
 /// changed its fact.
+#[inline(always)]
 fn carry_along<A: Analysis, P: Policy>(
     code: &A::Code,
     policy: &mut P,
     facts: &mut [A::Fact],
     edge: usize,
-    fact: A::Fact,
+    fact: &A::Fact,
 )
     requires room { (A.meaning code.now).nodes ≤ length facts.old }
     requires edge { edge < (A.meaning code.now).edges }
-    requires fact { A.valid code.now fact }
+    requires fact { A.valid code.now fact.now }
     requires valid { AllValid (A.valid code.now) (A.meaning code.now) facts.old }
-    ensures { Carries (A.meaning code.now) edge fact
+    ensures { Carries (A.meaning code.now) edge fact.now
         facts.old (P.pending policy.old)
         facts.new (P.pending policy.new) }
 {
     let to = A::edge(code, edge).1;
-    let old = facts[to];
-    let new = A::join(code, old, A::carry(code, edge, fact));
-    if !A::same(code, old, new) {
-        facts[to] = new;
+    if join_carried::<A>(code, edge, fact, &mut facts[to]) {
         policy.add(to);
     }
+}
+
+/// Joins what `edge` carries of `fact` into another fact, and answers whether that changed it.
+#[inline(always)]
+fn join_carried<A: Analysis>(
+    code: &A::Code,
+    edge: usize,
+    fact: &A::Fact,
+    into: &mut A::Fact,
+) -> bool
+    requires edge { edge < (A.meaning code.now).edges }
+    requires valid { (A.valid code.now fact.now) × (A.valid code.now into.old) }
+    ensures joined { into.new ≡ (A.meaning code.now).join into.old ((A.meaning code.now).carry edge fact.now) }
+    ensures changed { IsTrue result → into.new ≢ into.old }
+    ensures same { result ≡ false → into.new ≡ into.old }
+{
+    // The least fact is neutral in a join, so what is carried need not be made aside.
+    if A::is_least(code, into) {
+        *into = *fact;
+        A::carry(code, edge, into);
+        return !A::is_least(code, into);
+    }
+    let mut carried = *fact;
+    A::carry(code, edge, &mut carried);
+    A::join(code, into, &carried)
 }

@@ -59,17 +59,17 @@ impl Analysis for Reach {
         false
     }
 
-    fn join(_code: &usize, a: bool, b: bool) -> bool {
-        a | b
+    fn join(_code: &usize, into: &mut bool, fact: &bool) -> bool {
+        let changed = *fact && !*into;
+        *into = *into || *fact;
+        changed
     }
 
-    fn same(_code: &usize, a: bool, b: bool) -> bool {
+    fn same(_code: &usize, a: &bool, b: &bool) -> bool {
         a == b
     }
 
-    fn carry(_code: &usize, _edge: usize, fact: bool) -> bool {
-        fact
-    }
+    fn carry(_code: &usize, _edge: usize, _fact: &mut bool) {}
 }
 
 /// The facts and the take counts of three entries, one after the other in one slice, with an entry past the nodes.

@@ -34,6 +34,10 @@ module _ {C : Type 0} (join : C → C → C) where
   length-joined_cells (x ∷ xs) [] e = absurd (omega arith)
   length-joined_cells (x ∷ xs) (y ∷ ys) e = ap suc (length-joined_cells xs ys (omega arith))
 
+  pub joined_cells-same : ((x : C) → join x x ≡ x) → (xs : List C) → joined_cells join xs xs ≡ xs
+  joined_cells-same same [] = refl
+  joined_cells-same same (x ∷ xs) = λ i. same x i ∷ joined_cells-same same xs i
+
   pub get_or-joined_cells : (z : C) (xs ys : List C) (k : ℕ) → k < length xs → k < length ys
       → get_or (joined_cells join xs ys) k z ≡ join (get_or xs k z) (get_or ys k z)
   get_or-joined_cells z [] ys k l m = absurd (omega arith)

@@ -1,10 +1,10 @@
 -- What a change of the fields of `Cells` makes of what is held.
-use Rattle.std.proofs.Common.{◌≡◌, ℕ, ◌+◌, ◌-◌, ◌<◌, ◌≤◌, List, length, drop, set, inl, inr, ap, sym, ◌∙◌, arith, length-set, get_or-set_other, get_or-set_same}
+use Rattle.std.proofs.Common.{◌≡◌, ℕ, ◌+◌, ◌-◌, ◌<◌, ◌≤◌, List, length, drop, replicate, set, inl, inr, ap, sym, ◌∙◌, subst, arith, length-set, get_or-set_other, get_or-set_same}
 use Rattle.std.proofs.lemmas.List.{length-drop, drop-drop}
 use Rattle.std.proofs.lemmas.Bool.{cases_eq}
 use Rattle.facts.specs.declared.cells.Cells.TheInside.{Inside}
 use Rattle.facts.specs.Held.{Held}
-use Rattle.facts.specs.Cells.{held, Within, given_back, given_back_ok, length-below}
+use Rattle.facts.specs.Cells.{held, Within, given_back, given_back_ok, length-below, drop-unused}
 use Rattle.facts.specs.Frames.{joined_cells, joined_held}
 use Rattle.facts.proofs.Below.{below-set, drop-below, length-joined_cells, get_or-joined_cells, below-joined_cells}
 
@@ -45,6 +45,12 @@ module _ {C : Type 0} (join : C → C → C) (z : C) (a b : Inside C) (s t : Hel
 
   same_height : a.height ≡ b.height
   same_height = let l = length-below z a.stack a.height in let m = length-below z b.stack b.height in cc
+
+  -- the unused cells are the same in both
+  pub unused_same : drop a.height a.stack ≡ drop a.height b.stack
+  unused_same =
+      let unused = drop-unused z b.stack b.height 8 q.eight q.unused in
+      drop-unused z a.stack a.height 8 p.eight p.unused ∙ sym (subst (λ h. drop h b.stack ≡ replicate (8 - h) z) (sym same_height) unused)
 
   pub Within-joined : join z z ≡ z → Within z joined_inside
   Within-joined zz = record {

@@ -38,7 +38,7 @@ reverse-below z items (suc h) le =
     let e : reverse (below z items h) ≡ take h items = reverse-below z items h (omega arith) in
     reverse-append (slice_index_or items h z ∷ []) (below z items h) ∙ rw (e, ← take_more items h z l, add-one)
 
-drop-unused : {C : Type 0} (z : C) (items : List C) (h n : ℕ) → length items ≡ n
+pub drop-unused : {C : Type 0} (z : C) (items : List C) (h n : ℕ) → length items ≡ n
     → ((k : ℕ) → h ≤ k → k < n → slice_index_or items k z ≡ z) → drop h items ≡ replicate (n - h) z
 drop-unused z items h n e unused =
     let l : length (drop h items) ≡ length (replicate (n - h) z) = rw (length-drop, length-replicate, e) in

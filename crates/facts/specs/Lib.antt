@@ -9,3 +9,4 @@ pub mod Effects
 pub mod Types
 pub mod Constants
 pub mod Live
+pub mod Ways

@@ -1,5 +1,5 @@
 //! The cells of a frame.
-ghost use Rattle.std.specs.Prelude.{◌≡◌, ◌<◌, ◌≤◌, [], ◌∷◌, ◌↔◌, IsTrue, ⊤, length, drop, slice_index_or, slice_set};
+ghost use Rattle.std.specs.Prelude.{◌≡◌, ◌<◌, ◌≤◌, [], ◌∷◌, ◌↔◌, ◌≢◌, false, IsTrue, ⊤, length, drop, slice_index_or, slice_set};
 ghost use Rattle.facts.specs.Cells.{stack_cells};
 ghost use Rattle.facts.specs.Frames.{entry, joined_held, joined_cells};
 
@@ -99,52 +99,47 @@ impl<C: Cell> Cells<C> {
         }
     }
 
-    /// Without the top `count` values.
-    pub(crate) fn lowered(&self, count: usize) -> Cells<C>
-        requires { count ≤ length self.now.stack }
-        ensures { result ≡ record { stack = drop count self.now.stack; locals = self.now.locals } }
+    /// Drops the top `count` values.
+    pub(crate) fn lower(&mut self, count: usize)
+        requires { count ≤ length self.old.stack }
+        ensures { self.new ≡ record { stack = drop count self.old.stack; locals = self.old.locals } }
     {
-        let mut cells = *self;
         for _ in 0..count {
-            cells.height -= 1;
-            cells.stack[cells.height] = C::zero();
+            self.height -= 1;
+            self.stack[self.height] = C::zero();
         }
-        cells
     }
 
-    /// With a value more.
-    pub(crate) fn raised(self, cell: C) -> Cells<C>
-        requires { length self.stack < 8 }
-        ensures { result ≡ record { stack = cell ∷ self.stack; locals = self.locals } }
+    /// Puts a value on top.
+    pub(crate) fn raise(&mut self, cell: C)
+        requires { length self.old.stack < 8 }
+        ensures { self.new ≡ record { stack = cell ∷ self.old.stack; locals = self.old.locals } }
     {
-        let mut cells = self;
-        cells.stack[cells.height] = cell;
-        cells.height += 1;
-        cells
+        self.stack[self.height] = cell;
+        self.height += 1;
     }
 
-    /// With another cell for a local, if it is one of the 16.
-    pub(crate) fn with_local(self, local: u8, cell: C) -> Cells<C>
-        ensures { result ≡ record { stack = self.stack; locals = slice_set self.locals local cell } }
+    /// Writes a local's cell, if it is one of the 16.
+    pub(crate) fn set_local(&mut self, local: u8, cell: C)
+        ensures { self.new ≡ record { stack = self.old.stack; locals = slice_set self.old.locals local cell } }
     {
-        let mut cells = self;
         let local = usize::from(local);
         if local < 16 {
-            cells.locals[local] = cell;
+            self.locals[local] = cell;
         }
-        cells
     }
 
-    /// Cell by cell.
-    pub(crate) fn join(&self, other: &Cells<C>) -> Cells<C>
-        requires { length self.now.stack ≡ length other.now.stack }
-        ensures { result ≡ joined_held C.joined self.now other.now }
+    /// Joins the other's cells into these, and answers whether that changed one.
+    pub(crate) fn join(&mut self, other: &Cells<C>) -> bool
+        requires { length self.old.stack ≡ length other.now.stack }
+        ensures joined { self.new ≡ joined_held C.joined self.old other.now }
+        ensures changed { IsTrue result → self.new ≢ self.old }
+        ensures same { result ≡ false → self.new ≡ self.old }
     {
-        let mut cells = *self;
-        // The unused cells too: the zero cell joined to itself is the zero cell.
-        join_cells(&mut cells.stack, &other.stack);
-        join_cells(&mut cells.locals, &other.locals);
-        cells
+        // The unused cells are the zero cell in both.
+        let stack = join_cells(&mut self.stack, &other.stack, self.height);
+        let locals = join_cells(&mut self.locals, &other.locals, 16);
+        stack || locals
     }
 
     pub fn same(&self, other: &Cells<C>) -> bool
@@ -176,14 +171,24 @@ impl<C: Cell + fmt::Display> fmt::Display for Cells<C> {
     }
 }
 
-/// Joins each cell with the other at its place.
-fn join_cells<C: Cell>(cells: &mut [C], others: &[C])
-    requires { length cells.old ≡ length others.now }
-    ensures { cells.new ≡ joined_cells C.joined cells.old others.now }
+/// Joins each cell with the other at its place, and answers whether that changed one. Past the first `count` they are the same.
+fn join_cells<C: Cell>(cells: &mut [C], others: &[C], count: usize) -> bool
+    requires lengths { length cells.old ≡ length others.now }
+    requires count { count ≤ length cells.old }
+    requires rest { drop count cells.old ≡ drop count others.now }
+    ensures joined { cells.new ≡ joined_cells C.joined cells.old others.now }
+    ensures changed { IsTrue result → cells.new ≢ cells.old }
+    ensures same { result ≡ false → cells.new ≡ cells.old }
 {
-    for k in 0..cells.len() {
-        cells[k] = cells[k].join(others[k]);
+    let mut changed = false;
+    for k in 0..count {
+        let joined = cells[k].join(others[k]);
+        if !cells[k].same(joined) {
+            cells[k] = joined;
+            changed = true;
+        }
     }
+    changed
 }
 
 /// Whether two lists of cells of one length are the same.

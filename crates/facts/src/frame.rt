@@ -1,6 +1,7 @@
 //! What is known before a place.
-ghost use Rattle.std.specs.Prelude.{◌≡◌, [], ◌∷◌, ◌↔◌, IsTrue};
+ghost use Rattle.std.specs.Prelude.{◌≡◌, [], ◌∷◌, ◌↔◌, ◌≢◌, false, IsTrue};
 ghost use Rattle.facts.specs.Frames.{entry, joined_frames, replaced, top_of};
+ghost use Rattle.facts.specs.Ways.{followed};
 
 use crate::cell::Cell;
 use crate::cells::Cells;
@@ -16,7 +17,7 @@ pub enum Frame<C: Cell> {
 }
 
 impl<C: Cell> Frame<C> {
-    ghost use Rattle.facts.specs.declared.frame.Frame.TheVariants.{At};
+    ghost use Rattle.facts.specs.declared.frame.Frame.TheVariants.{Unreached, At};
 
     /// Before the first instruction: no value, and nothing known of the locals.
     pub fn entry() -> Frame<C>
@@ -25,14 +26,55 @@ impl<C: Cell> Frame<C> {
         Frame::At(Cells::entry())
     }
 
-    /// What is known where either may be: the least frame at or above both.
-    pub fn join(&self, other: &Frame<C>) -> Frame<C>
-        ensures { result ≡ joined_frames C.joined self.now other.now }
+    /// Whether it is not Unreached.
+    pub fn is_reached(&self) -> bool
+        ensures { IsTrue result ↔ (self.now ≢ Unreached) }
     {
-        match (self, other) {
-            (Frame::Unreached, frame) | (frame, Frame::Unreached) => *frame,
-            (Frame::At(a), Frame::At(b)) if a.height() == b.height() => Frame::At(a.join(b)),
-            _ => Frame::Clash,
+        !matches!(self, Frame::Unreached)
+    }
+
+    /// Joins the other frame into this one, which is then the least at or above both, and answers whether that changed it.
+    pub fn join(&mut self, other: &Frame<C>) -> bool
+        ensures joined { self.new ≡ joined_frames C.joined self.old other.now }
+        ensures changed { IsTrue result → self.new ≢ self.old }
+        ensures same { result ≡ false → self.new ≡ self.old }
+    {
+        match self {
+            Frame::Unreached => match other {
+                Frame::Unreached => false,
+                Frame::At(_) | Frame::Clash => {
+                    *self = *other;
+                    true
+                }
+            },
+            Frame::At(cells) => match other {
+                Frame::Unreached => false,
+                Frame::At(others) => {
+                    if cells.height() == others.height() {
+                        cells.join(others)
+                    } else {
+                        *self = Frame::Clash;
+                        true
+                    }
+                }
+                Frame::Clash => {
+                    *self = Frame::Clash;
+                    true
+                }
+            },
+            Frame::Clash => false,
+        }
+    }
+
+    /// Goes a way: on, or to Unreached or Clash.
+    #[inline(always)]
+    pub(crate) fn follow(&mut self, way: Way)
+        ensures { self.new ≡ followed way self.old }
+    {
+        match way {
+            Way::On => {}
+            Way::Nowhere => *self = Frame::Unreached,
+            Way::Clash => *self = Frame::Clash,
         }
     }
 
@@ -67,15 +109,41 @@ impl<C: Cell + fmt::Display> fmt::Display for Frame<C> {
     }
 }
 
+/// Where an instruction leads.
+#[derive(Clone, Copy, PartialEq, Eq, Debug)]
+pub(crate) enum Way {
+    /// On, with the cells that it leaves.
+    On,
+    /// Nowhere along the edge.
+    Nowhere,
+    /// To Clash: it is not applicable.
+    Clash,
+}
+
 impl<C: Cell> Cells<C> {
-    /// With the cell in the place of the top `count` values; Clash where there are fewer, or where more than 8 would be left.
-    pub(crate) fn replaced(&self, count: usize, cell: C) -> Frame<C>
-        ensures { result ≡ replaced count (cell ∷ []) self.now }
+    ghost use Rattle.facts.specs.Ways.{framed};
+
+    /// Puts the cell in the place of the top `count` values; Clash where there are fewer, or where more than 8 would be left.
+    pub(crate) fn replace(&mut self, count: usize, cell: C) -> Way
+        ensures { framed result self.new ≡ replaced count (cell ∷ []) self.old }
     {
         let height = self.height();
         if height < count || height - count == 8 {
-            return Frame::Clash;
+            return Way::Clash;
         }
-        Frame::At(self.lowered(count).raised(cell))
+        self.lower(count);
+        self.raise(cell);
+        Way::On
+    }
+
+    /// Drops the top value; Clash where there is none.
+    pub(crate) fn pop(&mut self) -> Way
+        ensures { framed result self.new ≡ replaced 1 [] self.old }
+    {
+        if self.height() == 0 {
+            return Way::Clash;
+        }
+        self.lower(1);
+        Way::On
     }
 }

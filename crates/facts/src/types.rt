@@ -1,12 +1,16 @@
 //! Type frames: of which kind each value is.
-ghost use Rattle.std.specs.Prelude.{◌≡◌, ◌≤◌, length, None};
-ghost use Rattle.facts.specs.Effects.{takes_of, after};
-ghost use Rattle.facts.specs.Types.{types, has_right_kinds, reason_at, reason, carry_types};
+ghost use Rattle.std.specs.Prelude.{◌≡◌, ◌≤◌, cond, length, [], ◌∷◌};
+ghost use Rattle.machine.specs.Machine.{number};
+ghost use Rattle.facts.specs.declared.frame.Frame.TheVariants.{At, Clash};
+ghost use Rattle.facts.specs.Effects.{takes_of};
+ghost use Rattle.facts.specs.Frames.{replaced};
+ghost use Rattle.facts.specs.Types.{has_kinds, has_right_kinds, reason_at, reason, carry_types};
+ghost use Rattle.facts.specs.Ways.{framed};
 
 use crate::cell::TypeCell;
 use crate::cells::Cells;
 use crate::effect::{puts, takes};
-use crate::frame::Frame;
+use crate::frame::{Frame, Way};
 use crate::reason::Reason;
 use bytecode::instr::Instr;
 
@@ -21,17 +25,14 @@ pub fn reason(instr: Instr, frame: &Frame<TypeCell>) -> Option<Reason>
     }
 }
 
-/// The frame after the instruction, which is performed on the kinds.
-pub fn carry_types(instr: Instr, frame: &Frame<TypeCell>) -> Frame<TypeCell>
-    ensures { result ≡ carry_types instr frame.now }
+/// Carries the frame through the instruction, which is performed on the kinds.
+#[inline(always)]
+pub fn carry_types(instr: Instr, frame: &mut Frame<TypeCell>)
+    ensures { frame.new ≡ carry_types instr frame.old }
 {
-    match frame {
-        Frame::Unreached => Frame::Unreached,
-        Frame::At(cells) => match reason_at(instr, cells) {
-            None => Frame::At(after(instr, cells)),
-            Some(_) => Frame::Clash,
-        },
-        Frame::Clash => Frame::Clash,
+    if let Frame::At(cells) = frame {
+        let way = perform(instr, cells);
+        frame.follow(way);
     }
 }
 
@@ -77,28 +78,56 @@ fn has_right_kinds(instr: Instr, cells: &Cells<TypeCell>) -> bool
     }
 }
 
-/// The cells after an instruction that is applicable.
-fn after(instr: Instr, cells: &Cells<TypeCell>) -> Cells<TypeCell>
-    requires { reason_at instr cells.now ≡ None }
-    ensures { result ≡ after types instr cells.now }
+/// Puts the kind in the place of two numbers; Clash where there are none.
+fn operate(kind: TypeCell, cells: &mut Cells<TypeCell>) -> Way
+    ensures { framed result cells.new ≡ cond (has_kinds (number ∷ number ∷ []) cells.old.stack) (replaced 2 (kind ∷ []) cells.old) Clash }
 {
+    if cells.cell(0) != TypeCell::Num || cells.cell(1) != TypeCell::Num {
+        return Way::Clash;
+    }
+    cells.replace(2, kind)
+}
+
+/// Performs the instruction on the kinds; Clash where it is not applicable.
+#[inline(always)]
+fn perform(instr: Instr, cells: &mut Cells<TypeCell>) -> Way
+    ensures { framed result cells.new ≡ carry_types instr (At cells.old) }
+{
+    use TypeCell::{Flag, Num, Unusable};
+    let height = cells.height();
     let top = cells.cell(0);
-    let under = cells.cell(1);
-    let rest = cells.lowered(takes(instr));
     match instr {
-        Instr::Nop
-        | Instr::Halt
-        | Instr::Pop
-        | Instr::Jmp(_)
-        | Instr::Jf(_)
-        | Instr::DropJmp(_)
-        | Instr::Out => rest,
-        Instr::Lit { .. } | Instr::Add | Instr::Sub | Instr::Mul | Instr::Div | Instr::In =>
-            rest.raised(TypeCell::Num),
-        Instr::LitFlag { .. } | Instr::Eq | Instr::Lt | Instr::Not => rest.raised(TypeCell::Flag),
-        Instr::Dup => rest.raised(top).raised(top),
-        Instr::Swap => rest.raised(top).raised(under),
-        Instr::Load(local) => rest.raised(cells.local(local)),
-        Instr::Store(local) => rest.with_local(local, top),
+        Instr::Nop | Instr::Halt | Instr::Jmp(_) => Way::On,
+        Instr::Lit { drops, .. } => cells.replace(usize::from(drops), Num),
+        Instr::LitFlag { drops, .. } => cells.replace(usize::from(drops), Flag),
+        Instr::Dup if height == 0 => Way::Clash,
+        Instr::Dup => cells.replace(0, top),
+        Instr::Swap if height < 2 => Way::Clash,
+        Instr::Swap => {
+            let under = cells.cell(1);
+            cells.lower(2);
+            cells.raise(top);
+            cells.raise(under);
+            Way::On
+        }
+        Instr::Store(_) if height == 0 => Way::Clash,
+        Instr::Store(local) => {
+            cells.lower(1);
+            cells.set_local(local, top);
+            Way::On
+        }
+        Instr::Load(local) if cells.local(local) == Unusable => Way::Clash,
+        Instr::Load(local) => {
+            let loaded = cells.local(local);
+            cells.replace(0, loaded)
+        }
+        Instr::Add | Instr::Sub | Instr::Mul | Instr::Div => operate(Num, cells),
+        Instr::Eq | Instr::Lt => operate(Flag, cells),
+        Instr::Not if top != Flag => Way::Clash,
+        Instr::Not => cells.replace(1, Flag),
+        Instr::Jf(_) if top != Flag => Way::Clash,
+        Instr::Out if top != Num => Way::Clash,
+        Instr::Pop | Instr::DropJmp(_) | Instr::Jf(_) | Instr::Out => cells.pop(),
+        Instr::In => cells.replace(0, Num),
     }
 }

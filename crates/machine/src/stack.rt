@@ -1,5 +1,5 @@
 //! The stack.
-ghost use Rattle.std.specs.Prelude.{◌≡◌, []};
+ghost use Rattle.std.specs.Prelude.{◌≡◌, ◌<◌, [], ◌∷◌, length, IfOk};
 ghost use Rattle.machine.specs.Stack.{gives, popped, pushed, dropped_by};
 
 use crate::ending::Inapplicable;
@@ -8,38 +8,36 @@ use std::marker::Model;
 
 /// At most 8 values.
 #[derive(Drop)]
-pub struct Stack {
-    // Kept: an `ArrayVec` overwrites each value that is popped, and takes twice the time.
-    items: [Value; 8],
+pub struct Stack<'a> {
+    // Behind a reference: beside an array that is indexed, the height would stay in memory, and be read and written at each step.
+    items: &'a mut [Value; 8],
     height: usize,
 }
 
-impl Model for Stack {
-    ghost use Rattle.std.specs.Prelude.{◌≤◌, List};
+impl<'a> Model for Stack<'a> {
+    ghost use Rattle.std.specs.Prelude.{◌≡◌, ◌≤◌, List, length};
     ghost use Rattle.machine.specs.declared.value.Value.{Value as Item};
     ghost use Rattle.machine.specs.Stack.{below};
 
     // The top first.
     ghost Value = { List Item };
 
-    ghost view = { λ s. below s.items s.height };
+    ghost view = { λ s. below s.items.now s.height };
 
-    ghost invariant = { λ s. s.height ≤ 8 };
+    ghost invariant = { λ s. (s.height ≤ 8) × (length s.items.now ≡ 8) };
 }
 
-impl Stack {
-    // No derived `Default`, here and in what holds a stack: it has no clause, and a value has no default.
-    pub fn new() -> Stack
+impl<'a> Stack<'a> {
+    /// An empty stack, whose values are kept in `items`.
+    pub fn new(items: &'a mut [Value; 8]) -> Stack<'a>
         ensures { result ≡ [] }
     {
-        Stack {
-            items: [Value::Num(0); 8],
-            height: 0,
-        }
+        Stack { items, height: 0 }
     }
 
     pub fn pop(&mut self) -> Result<Value, Inapplicable>
-        ensures { gives result self.new ≡ popped self.old }
+        ensures pops { gives result self.new ≡ popped self.old }
+        ensures room { IfOk result (λ _. length self.new < 8) }
     {
         if self.height == 0 {
             return Err(Inapplicable);
@@ -54,9 +52,17 @@ impl Stack {
         if self.height == 8 {
             return Err(Inapplicable);
         }
+        self.put(value);
+        Ok(())
+    }
+
+    /// Puts a value where there is room for it, as where one was popped.
+    pub fn put(&mut self, value: Value)
+        requires { length self.old < 8 }
+        ensures { self.new ≡ value ∷ self.old }
+    {
         self.items[self.height] = value;
         self.height += 1;
-        Ok(())
     }
 
     pub fn drop_by(&mut self, count: u8) -> Result<(), Inapplicable>

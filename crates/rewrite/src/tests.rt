@@ -28,7 +28,7 @@ const HALT: [u8; 12] = [1, 0, 0, 1, 1, 0, 0, 0, 0, 0, 0, 3];
 fn after(code: &[Instr]) -> Frame<ConstCell> {
     let mut frame = Frame::entry();
     for instr in code {
-        frame = carry_constants(*instr, false, &frame);
+        carry_constants(*instr, false, &mut frame);
     }
     frame
 }

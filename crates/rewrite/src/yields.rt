@@ -9,7 +9,7 @@ ghost use Rattle.rewrite.specs.Choices.{InRange, Yielded, NoRule, LowestRule};
 use crate::rule::Rule;
 use bytecode::instr::Instr;
 use facts::cell::ConstCell;
-use facts::constants::carry_constants;
+use facts::constants::top_after;
 use facts::frame::Frame;
 use facts::live::LiveSet;
 
@@ -40,7 +40,7 @@ fn literal(instr: Instr, known: &Frame<ConstCell>) -> Option<Instr>
     ensures { (live : ℕ) → Yielded R.Literal instr known.now live result }
 {
     let drops = folds(instr)?;
-    match carry_constants(instr, false, known).top()? {
+    match top_after(instr, known)? {
         ConstCell::Num(value) => Some(Instr::Lit { drops, value }),
         ConstCell::Flag(value) => Some(Instr::LitFlag { drops, value }),
         ConstCell::Varies => None,

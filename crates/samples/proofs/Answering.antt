@@ -27,7 +27,7 @@ use Rattle.workspace.specs.Calls.{Call, Answer, load, opens, keep, run, write_ou
 use Rattle.workspace.specs.Does.{Model, Does, By, Accepts, Holds, Verifies, ByVerdict, ByReading, first}
 use Rattle.workspace.specs.Histories.{Event, event, Runs, calls_of, answers_of, untimed}
 use Rattle.samples.specs.Samples.{Answered}
-use Rattle.samples.proofs.Solvable.{holdable}
+use Rattle.samples.proofs.Holdable.{holdable}
 
 -- the calls can be made from here on, and every history of them answers so
 pub record AnsweredFrom (m : Model) (calls : List Call) (answers : List Answer) : Type 0 where

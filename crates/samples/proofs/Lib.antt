@@ -8,4 +8,4 @@ pub mod Answering
 pub mod Tidying
 pub mod FiveTidied
 pub mod Loads
-pub mod Solvable
+pub mod Holdable

@@ -13,7 +13,7 @@ use Rattle.workspace.specs.Calls.{Call, Answer, tidy, tidied}
 use Rattle.workspace.specs.Does.{Model, Holds, Tidies}
 use Rattle.workspace.specs.Histories.{untimed}
 use Rattle.samples.proofs.Answering.{AnsweredHolding, with_unit, with_unit_is, holds_with, held_answered, call_answered}
-use Rattle.samples.proofs.Solvable.{holdable}
+use Rattle.samples.proofs.Holdable.{holdable}
 
 -- a tidy of what is held can make n changes, makes no other number of them, and leaves the unit w
 pub record TidiesBy (n : ℕ) (c : Contents) (w : TheUnit) : Type 0 where

@@ -1,5 +1,5 @@
 -- A tidy leaves as many attempts open.
-use Rattle.std.proofs.Common.{◌≡◌, ℕ, zero, suc, length, Some, ap, sym, ◌∙◌}
+use Rattle.std.proofs.Common.{◌≡◌, ℕ, zero, suc, length, ap, sym, ◌∙◌}
 use Rattle.workspace.specs.Contents.{Contents}
 use Rattle.workspace.specs.Calls.{Answer, tidy}
 use Rattle.workspace.specs.Does.{Model, Does, Tidies, depth}

@@ -4,7 +4,10 @@ use Rattle.bytecode.specs.declared.instr.Instr.{Instr}
 use Rattle.bytecode.specs.declared.unit.Unit.{Unit as TheUnit}
 use Rattle.workspace.specs.declared.solutions.Solutions.{Solutions}
 use Rattle.workspace.specs.Does.{Holds}
-use Rattle.workspace.specs.Stored.{contents_of, AreSolutions}
+use Rattle.workspace.specs.Stored.{contents_of, TypesAreSolved, RestIsSolved, AreSolutions}
+
+pub both_solved : (u : TheUnit) (s : Solutions) → TypesAreSolved u s → RestIsSolved u s → AreSolutions u s
+both_solved u s types rest codes = record { types = types; constants = rest.constants; lives = rest.lives }
 
 pub holds_solved : (g u : TheUnit) (s : Solutions) (codes now : List (List Instr)) → g ≡ u → AreSolutions g s → now ≡ codes
     → Holds u codes (Some (contents_of (record { unit = u; solutions = s; opened = now })))

@@ -13,7 +13,8 @@ pub mod Promise
 pub mod Buffers
 pub mod Replayed
 pub mod Depths
-pub mod Fresh
+pub mod Taken
+pub mod Solvable
 pub mod Holding
 pub mod Loading
 pub mod PutBack

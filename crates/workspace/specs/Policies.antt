@@ -5,6 +5,14 @@ use Rattle.workspace.specs.declared.policies.Policies.{Policies}
 use Rattle.workspace.specs.declared.refusal.LoadFault.{LoadFault}
 use Rattle.workspace.specs.declared.refusal.LoadFault.TheVariants as F
 
+-- a file that cannot be read leaves the policy of the types as it was
+abbrev pub EmptiedByExamining : {T A : Type 0} → (T → ℕ → Bool) → Result A LoadFault → T → T → Type 0
+EmptiedByExamining in_types (Ok t) old new = IsEmpty (in_types new)
+EmptiedByExamining in_types (Err F.AttemptOpen) old new = ⊥
+EmptiedByExamining in_types (Err (F.File fault)) old new = new ≡ old
+EmptiedByExamining in_types (Err (F.Unit fault)) old new = new ≡ old
+EmptiedByExamining in_types (Err (F.Verifier fault)) old new = IsEmpty (in_types new)
+
 module _ {T C L : Type 0} (in_types : T → ℕ → Bool) (in_constants : C → ℕ → Bool) (in_lives : L → ℕ → Bool) where
   -- no node is pending in any of the three
   pub record AreEmpty (p : Policies T C L) : Type 0 where

@@ -1,5 +1,5 @@
 -- What each call answers, as the model has it. Assumes nothing.
-use Rattle.std.specs.Prelude.{ℕ, List, ℤ, Some, Ok, Err, Result}
+use Rattle.std.specs.Prelude.{ℕ, List, [], take, ℤ, Ok, Err, Result}
 use Rattle.std.specs.Borrow.{Bor}
 use Rattle.bytecode.specs.declared.unit.Unit.{Unit as TheUnit}
 use Rattle.machine.specs.declared.answer.Answer.{Answer as RunAnswer}
@@ -8,8 +8,13 @@ use Rattle.workspace.specs.declared.refusal.Refusal.{Refusal}
 use Rattle.workspace.specs.declared.shown.Facts.{Facts}
 use Rattle.workspace.specs.declared.shown.TakeCounts.{TakeCounts}
 use Rattle.workspace.specs.declared.workspace.Attempt.{Attempt as Token}
-use Rattle.workspace.specs.Stored.{Stored, contents_of}
-use Rattle.workspace.specs.Does.{Model, LoadsAt}
+use Rattle.dataflow.specs.Takes.{at}
+use Rattle.facts.specs.declared.cell.TypeCell.{TypeCell}
+use Rattle.facts.specs.declared.frame.Frame.{Frame}
+use Rattle.facts.specs.Frames.{Fitting}
+use Rattle.analyses.specs.Frameworks.{types_of}
+use Rattle.workspace.specs.Contents.{IsSolution}
+use Rattle.workspace.specs.Does.{Model, Holds, LoadsAt}
 use Rattle.workspace.specs.Calls.{Answer, loaded, opened, changed, tidied, ran, written, shown, counted, is_unit, not_loaded, refused, returned, not_run, not_written}
 
 abbrev pub loading : Result (Unit {0}) LoadFault → Answer
@@ -54,7 +59,9 @@ abbrev pub telling : Result (Bor TheUnit) Refusal → Answer
 telling (Ok u) = is_unit u.now
 telling (Err r) = refused r
 
--- what a file is found to be, where no attempt is open
-abbrev pub FoundIn : List ℕ → Result Stored LoadFault → Type 0
-FoundIn file (Ok s) = (m : Model) → LoadsAt 0 file m loaded (Some (contents_of s))
-FoundIn file (Err fault) = (m : Model) → LoadsAt 0 file m (not_loaded fault) m
+-- what a file is found to be, where no attempt is open: the unit u, whose types are solved, or refused
+abbrev pub ExaminedIn : List ℕ → TheUnit → List (Frame TypeCell) → ℕ → Result (Unit {0}) LoadFault → Type 0
+ExaminedIn file u types takes (Ok t) =
+    ((m m' : Model) → Holds u [] m' → LoadsAt 0 file m loaded m')
+    × IsSolution Fitting (types_of u) (at (types_of u) (take u.len types)) takes
+ExaminedIn file u types takes (Err fault) = (m : Model) → LoadsAt 0 file m (not_loaded fault) m

@@ -9,19 +9,13 @@ use crate::trail::{Change, Trail};
 use bytecode::instr::Instr;
 use bytecode::unit::Unit;
 
-/// The unit with another instruction at a place.
-pub(crate) fn changed(unit: &Unit, place: usize, instr: Instr) -> Unit
-    requires inside { place < unit.now.len }
-    requires stands { sound unit.now.locals place unit.now.len instr ≡ true }
-    ensures { IsChanged unit.now place instr result }
+/// Puts another instruction at a place.
+pub(crate) fn put(unit: &mut Unit, place: usize, instr: Instr)
+    requires inside { place < unit.old.len }
+    requires stands { sound unit.old.locals place unit.old.len instr ≡ true }
+    ensures { IsChanged unit.old place instr unit.new }
 {
-    let mut code = unit.code;
-    code[place] = instr;
-    Unit {
-        locals: unit.locals,
-        len: unit.len,
-        code,
-    }
+    unit.code[place] = instr;
 }
 
 /// Puts back all changes but the first `mark`, the last one first.
@@ -31,6 +25,6 @@ pub(crate) fn put_back(unit: &mut Unit, trail: &mut Trail, mark: usize)
     ensures { PutBack mark unit.old trail.old unit.new trail.new }
 {
     while let Some(Change { place, old }) = trail.pop_past(mark) {
-        *unit = changed(unit, place, old);
+        put(unit, place, old);
     }
 }

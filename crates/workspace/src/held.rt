@@ -1,13 +1,18 @@
 //! What a workspace holds once a unit is loaded.
-ghost use Rattle.std.specs.Prelude.{◌≡◌, ◌+◌, ◌<◌, ◌≤◌, ◌↔◌, IsTrue, [], ◌∷◌, length, drop, Some, MatchOption};
+ghost use Rattle.std.specs.Prelude.{◌≡◌, ◌+◌, ◌<◌, ◌≤◌, ◌↔◌, IsTrue, [], ◌∷◌, length, take, drop, Some, MatchOption};
+ghost use Rattle.dataflow.specs.Pending.{IsEmpty};
+ghost use Rattle.dataflow.specs.Takes.{at};
+ghost use Rattle.facts.specs.Frames.{Fitting};
+ghost use Rattle.analyses.specs.Frameworks.{types_of};
+ghost use Rattle.workspace.specs.Contents.{IsSolution};
 ghost use Rattle.bytecode.specs.Files.{held};
 ghost use Rattle.rewrite.specs.Choices.{InRange, NothingToDo, LowestChange};
-ghost use Rattle.workspace.specs.Does.{Tidies};
+ghost use Rattle.workspace.specs.Does.{Holds, Tidies};
 ghost use Rattle.workspace.specs.Policies.{AreEmpty};
-ghost use Rattle.workspace.specs.Stored.{contents_of, facts_of, IsYielded, Changes, Reverts};
+ghost use Rattle.workspace.specs.Stored.{contents_of, facts_of, IsYielded, TypesAreSolved, Changes, Amends, Reverts};
 
-use crate::changes::{changed, put_back};
-use crate::found::fact;
+use crate::changes::{put, put_back};
+use crate::found::{Found, fact};
 use crate::policies::Policies;
 use crate::shown::{Facts, TakeCounts};
 use crate::solutions::Solutions;
@@ -16,6 +21,8 @@ use analyses::graph::Graph;
 use bytecode::instr::Instr;
 use bytecode::unit::Unit;
 use dataflow::policy::Policy;
+use facts::cell::TypeCell;
+use facts::frame::Frame;
 use rewrite::change::first_change;
 use rewrite::yields::some_rule_yields;
 use std::marker::Model;
@@ -45,15 +52,30 @@ impl Model for Held {
 }
 
 impl Held {
-    /// With no open attempt.
-    pub(crate) fn new(unit: Unit, solutions: Solutions) -> Held
-        ensures { result ≡ record { unit = unit; solutions = solutions; opened = [] } }
-    {
+    /// HALT, with nothing solved.
+    pub(crate) fn new() -> Held {
         Held {
-            unit,
-            solutions,
+            unit: Unit::halt(),
+            solutions: Solutions::new(),
             trail: Trail::new(),
         }
+    }
+
+    /// Takes another unit, whose types are solved, with no open attempt.
+    pub(crate) fn load<C: Policy, L: Policy>(
+        &mut self,
+        graph: &Graph,
+        types: &Found<Frame<TypeCell>>,
+        constants: &mut C,
+        lives: &mut L,
+    )
+        requires { IsSolution Fitting (types_of graph.now) (at (types_of graph.now) (take graph.now.len types.now.facts)) types.now.takes }
+        ensures holds { Holds graph.now [] (Some (contents_of self.new)) }
+        ensures emptied { IsEmpty (C.pending constants.new) × IsEmpty (L.pending lives.new) }
+    {
+        self.unit.turn_to(graph.unit());
+        self.solutions.with_types(graph, types, constants, lives);
+        self.trail.reset();
     }
 
     pub(crate) fn unit(&self) -> &Unit
@@ -116,6 +138,7 @@ impl Held {
     /// Puts back the code that was held when the innermost attempt was opened, and solves anew.
     pub(crate) fn abandon<T: Policy, C: Policy, L: Policy>(
         &mut self,
+        graph: &mut Graph,
         policies: &mut Policies<T, C, L>,
     )
         requires { 0 < length self.old.opened }
@@ -124,7 +147,8 @@ impl Held {
     {
         let mark = self.trail.close();
         put_back(&mut self.unit, &mut self.trail, mark);
-        self.solutions = Solutions::of(&Graph::new(&self.unit), policies);
+        graph.set(&self.unit);
+        self.solutions.solve(graph, policies);
     }
 
     /// Whether some rule yields the instruction at a place.
@@ -146,6 +170,7 @@ impl Held {
         &mut self,
         place: usize,
         instr: Instr,
+        graph: &mut Graph,
         policies: &mut Policies<T, C, L>,
     )
         requires inside { place < self.old.unit.len }
@@ -154,17 +179,63 @@ impl Held {
         ensures changes { Changes (contents_of self.old) place instr (contents_of self.new) }
         ensures emptied { AreEmpty T.pending C.pending L.pending policies.new }
     {
+        self.amend(
+            place,
+            instr,
+            graph,
+            &mut policies.constants,
+            &mut policies.lives,
+        );
+        self.solve_types(graph, &mut policies.types);
+    }
+
+    /// Makes a change that a rule yields, records it and solves anew what the rules look at.
+    fn amend<C: Policy, L: Policy>(
+        &mut self,
+        place: usize,
+        instr: Instr,
+        graph: &mut Graph,
+        constants: &mut C,
+        lives: &mut L,
+    )
+        requires inside { place < self.old.unit.len }
+        requires yielded { IsYielded (contents_of self.old) place instr }
+        requires in_range { InRange instr }
+        ensures amends { Amends self.old place instr self.new }
+        ensures graph { graph.new ≡ self.new.unit }
+        ensures emptied { IsEmpty (C.pending constants.new) × IsEmpty (L.pending lives.new) }
+    {
         self.trail.push(Change {
             place,
             old: self.unit.code[place],
         });
-        self.unit = changed(&self.unit, place, instr);
-        self.solutions = Solutions::of(&Graph::new(&self.unit), policies);
+        put(&mut self.unit, place, instr);
+        graph.set(&self.unit);
+        self.solutions.solve_rest(graph, constants, lives);
+    }
+
+    /// Solves the types anew, over the tables of the held unit.
+    fn solve_types<T: Policy>(&mut self, graph: &Graph, policy: &mut T)
+        requires { graph.now ≡ self.old.unit }
+        ensures solved { TypesAreSolved self.new.unit self.new.solutions }
+        ensures rest { self.new ≡ record {
+          unit = self.old.unit;
+          solutions = record {
+            types = self.new.solutions.types;
+            constants = self.old.solutions.constants;
+            lives = self.old.solutions.lives;
+          };
+          opened = self.old.opened;
+        } }
+        ensures emptied { IsEmpty (T.pending policy.new) }
+    {
+        self.solutions.solve_types(graph, policy);
     }
 
     /// Applies the lowest rule at the lowest place that has one, and again, until none yields anything; answers the number of changes.
     pub(crate) fn tidy<T: Policy, C: Policy, L: Policy>(
         &mut self,
+        graph: &mut Graph,
         policies: &mut Policies<T, C, L>,
     ) -> usize
         ensures tidies { Tidies result (contents_of self.old) (Some (contents_of self.new)) }
@@ -173,8 +244,18 @@ impl Held {
         policies.clear();
         let mut made: usize = 0;
         while let Some(change) = self.next_change() {
-            self.change(change.place, change.instr, policies);
+            self.amend(
+                change.place,
+                change.instr,
+                graph,
+                &mut policies.constants,
+                &mut policies.lives,
+            );
             made += 1;
+        }
+        // No rule looks at the types, so they are solved once, for the code that is left.
+        if made > 0 {
+            self.solve_types(graph, &mut policies.types);
         }
         made
     }

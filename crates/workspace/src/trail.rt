@@ -97,6 +97,14 @@ impl Trail {
         Some(self.changes[self.count])
     }
 
+    /// Forgets the changes and the attempts.
+    pub(crate) fn reset(&mut self)
+        ensures { self.new ≡ record { changes = []; marks = [] } }
+    {
+        self.count = 0;
+        self.depth = 0;
+    }
+
     /// Forgets the changes.
     pub(crate) fn forget(&mut self)
         ensures { self.new ≡ record { changes = []; marks = self.old.marks } }

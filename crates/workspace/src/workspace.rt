@@ -11,7 +11,12 @@ pub mod replay;
 #[cfg(test)]
 mod tests;
 
+use crate::found::Found;
 use crate::held::Held;
+use analyses::graph::Graph;
+use bytecode::unit::Unit;
+use facts::cell::TypeCell;
+use facts::frame::Frame;
 use std::marker::Model;
 
 /// An open attempt: only keep and abandon spend it.
@@ -29,18 +34,22 @@ impl Model for Attempt {
 }
 
 /// One unit with its facts, or none.
+// What is held stays where it is, and is meant only once `loaded` is set. The last two are for a solving's work alone.
 #[derive(Drop)]
 pub struct Workspace {
-    held: Option<Held>,
+    loaded: bool,
+    held: Held,
+    graph: Graph,
+    types: Found<Frame<TypeCell>>,
 }
 
 impl Model for Workspace {
-    ghost use Rattle.std.specs.Prelude.{Option};
+    ghost use Rattle.std.specs.Prelude.{Option, Some, None, cond};
     ghost use Rattle.workspace.specs.Stored.{Stored};
 
     ghost Value = { Option Stored };
 
-    ghost view = { λ w. w.held };
+    ghost view = { λ w. cond w.loaded (Some w.held) None };
 }
 
 impl Workspace {
@@ -49,16 +58,21 @@ impl Workspace {
         ensures empty { model_of result ≡ None }
         ensures promise { (made : List Event) (m : TheModel) → Runs (model_of result) made m → KeptPromise made }
     {
-        Workspace { held: None }
+        Workspace {
+            loaded: false,
+            held: Held::new(),
+            graph: Graph::new(&Unit::halt()),
+            types: Found {
+                facts: [Frame::Unreached; 128],
+                takes: 0,
+            },
+        }
     }
 
     /// How many attempts are open.
     fn depth(&self) -> u8
         ensures { result ≡ depth (model_of self.now) }
     {
-        match &self.held {
-            Some(held) => held.depth(),
-            None => 0,
-        }
+        if self.loaded { self.held.depth() } else { 0 }
     }
 }

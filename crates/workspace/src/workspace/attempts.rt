@@ -27,9 +27,10 @@ impl Workspace {
     pub fn open(&mut self) -> Result<Attempt, Refusal>
         ensures { Does opens (model_of self.old) (opening result) (model_of self.new) }
     {
-        let Some(held) = &mut self.held else {
+        if !self.loaded {
             return Err(Refusal::NoUnit);
-        };
+        }
+        let held = &mut self.held;
         if held.depth() == 8 {
             return Err(Refusal::TooDeep);
         }
@@ -47,9 +48,10 @@ impl Workspace {
         ensures does { Does (propose attempt.now place instr) (model_of self.old) (proposing result) (model_of self.new) }
         ensures policies { EmptiedBy T.pending C.pending L.pending result policies.old policies.new }
     {
-        let Some(held) = &mut self.held else {
+        if !self.loaded {
             return Err(Refusal::NoUnit);
-        };
+        }
+        let held = &mut self.held;
         if !attempt.is_innermost(held) {
             return Err(Refusal::NotInnermost);
         }
@@ -59,7 +61,7 @@ impl Workspace {
         if !held.may_become(place, instr) {
             return Err(Refusal::NoRule);
         }
-        held.change(place, instr, policies);
+        held.change(place, instr, &mut self.graph, policies);
         Ok(())
     }
 
@@ -72,22 +74,24 @@ impl Workspace {
         ensures does { Does (tidy attempt.now) (model_of self.old) (tidying result) (model_of self.new) }
         ensures policies { EmptiedBy T.pending C.pending L.pending result policies.old policies.new }
     {
-        let Some(held) = &mut self.held else {
+        if !self.loaded {
             return Err(Refusal::NoUnit);
-        };
+        }
+        let held = &mut self.held;
         if !attempt.is_innermost(held) {
             return Err(Refusal::NotInnermost);
         }
-        Ok(held.tidy(policies))
+        Ok(held.tidy(&mut self.graph, policies))
     }
 
     /// Hands the innermost attempt's changes to the attempt around it, or at depth 1 forgets them.
     pub fn keep(&mut self, attempt: Attempt) -> Result<(), (Refusal, Attempt)>
         ensures { Does (keep attempt) (model_of self.old) (spending kept result) (model_of self.new) }
     {
-        let Some(held) = &mut self.held else {
+        if !self.loaded {
             return Err((Refusal::NoUnit, attempt));
-        };
+        }
+        let held = &mut self.held;
         if !attempt.is_innermost(held) {
             return Err((Refusal::NotInnermost, attempt));
         }
@@ -105,14 +109,15 @@ impl Workspace {
         ensures does { Does (abandon attempt) (model_of self.old) (spending abandoned result) (model_of self.new) }
         ensures policies { EmptiedBy T.pending C.pending L.pending result policies.old policies.new }
     {
-        let Some(held) = &mut self.held else {
+        if !self.loaded {
             return Err((Refusal::NoUnit, attempt));
-        };
+        }
+        let held = &mut self.held;
         if !attempt.is_innermost(held) {
             return Err((Refusal::NotInnermost, attempt));
         }
         let Attempt { depth: _ } = attempt;
-        held.abandon(policies);
+        held.abandon(&mut self.graph, policies);
         Ok(())
     }
 }

@@ -1,21 +1,21 @@
 //! Loading a unit file.
 ghost use Rattle.workspace.specs.Calls.{load};
 ghost use Rattle.workspace.specs.Does.{Does};
-ghost use Rattle.workspace.specs.Policies.{EmptiedByLoad};
+ghost use Rattle.workspace.specs.Policies.{EmptiedByLoad, EmptiedByExamining};
 ghost use Rattle.workspace.specs.Stored.{model_of};
-ghost use Rattle.workspace.specs.Views.{loading, FoundIn};
+ghost use Rattle.workspace.specs.Views.{loading, ExaminedIn};
 
 use super::Workspace;
-use crate::found::solve;
-use crate::held::Held;
+use crate::found::{Found, solve};
 use crate::policies::Policies;
 use crate::refusal::LoadFault;
-use crate::solutions::Solutions;
 use analyses::graph::Graph;
 use analyses::types::Types;
-use analyses::verify::judge;
+use analyses::verify::judge_solved;
 use bytecode::read::read;
 use dataflow::policy::Policy;
+use facts::cell::TypeCell;
+use facts::frame::Frame;
 
 impl Workspace {
     /// Replaces what is held by the unit of a file, if the verifier accepts it.
@@ -30,28 +30,34 @@ impl Workspace {
         if self.depth() > 0 {
             return Err(LoadFault::AttemptOpen);
         }
-        self.held = Some(verified(file, policies)?);
+        examine(file, &mut self.graph, &mut self.types, &mut policies.types)?;
+        self.held.load(
+            &self.graph,
+            &self.types,
+            &mut policies.constants,
+            &mut policies.lives,
+        );
+        self.loaded = true;
         Ok(())
     }
 }
 
-/// The unit of a file with its facts, if the verifier accepts it.
-fn verified<T: Policy, C: Policy, L: Policy>(
+/// Reads a file's unit and solves its types, if the verifier accepts it.
+fn examine<T: Policy>(
     file: &[u8],
-    policies: &mut Policies<T, C, L>,
-) -> Result<Held, LoadFault>
-    ensures found { FoundIn file.now result }
-    ensures policies { EmptiedByLoad T.pending C.pending L.pending result policies.old policies.new }
+    graph: &mut Graph,
+    types: &mut Found<Frame<TypeCell>>,
+    policy: &mut T,
+) -> Result<(), LoadFault>
+    ensures found { ExaminedIn file.now graph.new types.new.facts types.new.takes result }
+    ensures policy { EmptiedByExamining T.pending result policy.old policy.new }
 {
-    let unit = read(file)?;
-    let graph = Graph::new(&unit);
-    let types = solve::<Types, T>(&graph, &mut policies.types);
-    judge(&graph, &types.facts)?;
-    let solutions = Solutions::with_types(
-        &graph,
-        types,
-        &mut policies.constants,
-        &mut policies.lives,
-    );
-    Ok(Held::new(unit, solutions))
+    // By reference: a unit that is moved out of its result is copied twice more.
+    match &read(file) {
+        Ok(unit) => graph.set(unit),
+        Err(fault) => return Err(LoadFault::from(*fault)),
+    }
+    solve::<Types, T>(graph, policy, types);
+    judge_solved(graph, &types.facts)?;
+    Ok(())
 }

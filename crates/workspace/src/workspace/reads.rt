@@ -20,10 +20,10 @@ impl Workspace {
     fn held(&self) -> Result<&Held, Refusal>
         ensures { MatchResult result (λ held. self.now ≡ Some held.now) (λ refusal. (self.now ≡ None) × (refusal ≡ NoUnit)) }
     {
-        match &self.held {
-            Some(held) => Ok(held),
-            None => Err(Refusal::NoUnit),
+        if !self.loaded {
+            return Err(Refusal::NoUnit);
         }
+        Ok(&self.held)
     }
 
     /// Runs the held code for at most `budget` steps, with its outputs at the start of the buffer `outputs`.

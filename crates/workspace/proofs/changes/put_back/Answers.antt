@@ -16,13 +16,13 @@ loop-place-preserved c =
     let popped : t ≡ record { changes = rest.changes ++ x ∷ []; marks = rest.marks } = c.in-Some.ensures.0 in
     let changes : t.changes ≡ rest.changes ++ x ∷ [] = ap (λ (r : Recorded). r.changes) popped in
     let stand = All-pop (MayStand u.locals u.len) t.changes rest.changes (Some x) changes c.loop-place.invariant.stand in
-    let same = c.changed.ensures in
+    let same = c.put.ensures in
     record {
       locals = same.locals ∙ c.loop-place.invariant.locals;
       len = same.len ∙ c.loop-place.invariant.len;
       stand = rw (same.locals, same.len) stand.0;
       mark = c.in-Some.ensures.1;
-      code = put_back_step u c.changed.result t.changes rest.changes x c.args.mark changes c.in-Some.ensures.1 stand.1.0 same ∙ c.loop-place.invariant.code;
+      code = put_back_step u c.put.new.unit t.changes rest.changes x c.args.mark changes c.in-Some.ensures.1 stand.1.0 same ∙ c.loop-place.invariant.code;
       kept =
           sym (take-append-le c.args.mark rest.changes (x ∷ []) c.in-Some.ensures.1)
           ∙ ap (take c.args.mark) (sym changes)

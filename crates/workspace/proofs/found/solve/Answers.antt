@@ -1,15 +1,12 @@
-use Rattle.workspace.proofs.Fresh.{fresh_solution}
+use Rattle.workspace.proofs.Taken.{taken_solution}
 use Rattle.workspace.proofs.found.solve.Goals as goal
 
 pub returns-clause-solved : goal.returns-clause-solved
 returns-clause-solved g c =
-    fresh_solution
-    (g.A.Analysis.valid c.args.code.now)
-    (g.A.Analysis.meaning c.args.code.now)
-    128
-    c.least-facts.result
-    c.solution-takes.new.facts
-    (g.P.Policy.pending c.solution-takes.new.policy)
-    c.solution-takes.result
-    c.least-facts.ensures
-    c.solution-takes.ensures
+    taken_solution
+    (g.met.A.Analysis.lawful c.args.code.now)
+    c.args.found.now.facts
+    c.solution-found.new.facts
+    (g.P.Policy.pending c.solution-found.new.policy)
+    c.solution-found.result
+    c.solution-found.ensures

@@ -30,10 +30,9 @@ returns-clause-reverts g c =
     c.close-mark.ensures.marks
     c.close-mark.ensures.changes
     c.put_back.ensures in
-    let solved = c.of-self-inside.ensures.solved in
     rw (← c.self.view_is) (
       c.put_back.new.unit,
       c.put_back.ensures.locals,
       codes.0,
-      holds_solved c.new.result c.put_back.new.unit c.of-self-inside.result _ _ c.new.ensures solved codes.1,
+      holds_solved c.set.new.self c.put_back.new.unit c.solve.new.self _ _ c.set.ensures c.solve.ensures.solved codes.1,
     )

@@ -1,29 +1,32 @@
-use Rattle.std.proofs.Common.{◌<◌, Some, refl, subst, arith}
+use Rattle.std.proofs.Common.{◌≡◌, ◌<◌, Some, refl, sym, subst, arith}
 use Rattle.bytecode.specs.Files.{held}
 use Rattle.bytecode.proofs.Held.{length-held}
 use Rattle.rewrite.specs.Weights.{weight_of}
 use Rattle.rewrite.proofs.Weights.{weight_twice}
 use Rattle.workspace.specs.Does.{Tidies}
-use Rattle.workspace.specs.Stored.{contents_of}
-use Rattle.workspace.proofs.Tidying.{changes_lower, tidies_more}
+use Rattle.rewrite.specs.Choices.{NothingToDo}
+use Rattle.workspace.specs.Stored.{Stored, contents_of}
+use Rattle.workspace.proofs.Tidying.{amends_lower, tidied_none, tidied_more, tidied_all, TidiedTo}
 use Rattle.workspace.proofs.held.Held.tidy.Goals as goal
 
-lighter : (g : _) (c : goal.After-change g) → weight_of (held c.change.new.self.unit) < weight_of (held c.loop-change.self.unit)
+lighter : (g : _) (c : goal.After-amend g) → weight_of (held c.amend.new.self.unit) < weight_of (held c.loop-change.self.unit)
 lighter g c =
     let low = c.in-Some.ensures.0 in
-    changes_lower
-    (contents_of c.loop-change.self)
-    (contents_of c.change.new.self)
+    amends_lower
+    c.loop-change.self
+    c.amend.new.self
     c.in-Some.change.place
     c.in-Some.change.instr
     low.inside
     (c.in-Some.change.rule, low.here.yields)
-    c.change.ensures.changes
+    c.amend.ensures.amends
 
 pub loop-change-init : goal.loop-change-init
 loop-change-init g c = record {
   few = omega (arith, weight_twice (held c.args.self.now.unit), length-held c.args.self.now.unit, c.args.self.now.unit.most);
-  tidies = λ n m t. subst (λ k. Tidies k (contents_of c.args.self.now) m) (omega arith) t;
+  tidied = tidied_none c.args.self.now;
+  unchanged = λ none. refl;
+  graph = λ some. absurd (omega (arith, some));
   emptied = c.clear.ensures;
 }
 
@@ -33,23 +36,41 @@ loop-change-smaller g c = lighter g c
 pub loop-change-preserved : goal.loop-change-preserved
 loop-change-preserved g c = record {
   few = omega (arith, c.loop-change.invariant.few, lighter g c);
-  tidies = λ n m t.
-      tidies_more
-      (contents_of c.loop-change.self)
-      (contents_of c.change.new.self)
+  tidied =
+      tidied_more
       (contents_of c.args.self.now)
+      c.loop-change.self
+      c.amend.new.self
       c.in-Some.change
       c.loop-change.made
-      n
-      m
       c.in-Some.ensures.0
-      c.change.ensures.changes
-      c.loop-change.invariant.tidies
-      t;
-  emptied = c.change.ensures.emptied;
+      c.amend.ensures.amends
+      c.loop-change.invariant.tidied;
+  unchanged = λ none. absurd (omega (arith, none));
+  graph = λ some. c.amend.ensures.graph;
+  emptied = record { types = c.loop-change.invariant.emptied.types; constants = c.amend.ensures.emptied.0; lives = c.amend.ensures.emptied.1 };
 }
 
-pub returns-clause-tidies : goal.returns-clause-tidies
-returns-clause-tidies g c =
-    let done = c.loop-change.invariant.tidies 0 (Some (contents_of c.loop-change.self)) (c.in_default.ensures, refl) in
-    subst (λ k. Tidies k (contents_of c.args.self.now) (Some (contents_of c.loop-change.self))) (omega arith) done
+pub returns-then-made-gt0-clause-tidies : goal.returns-then-made-gt0-clause-tidies
+returns-then-made-gt0-clause-tidies g c =
+    let e = contents_of c.args.self.now in
+    let after = c.solve_types.new.self in
+    let same = sym c.solve_types.ensures.rest in
+    tidied_all
+    e
+    after
+    c.loop-change.made
+    (omega (arith, c.if-made-gt0.true))
+    c.solve_types.ensures.solved
+    (subst (λ (s : Stored). NothingToDo s.unit (contents_of s).constants (contents_of s).lives) same c.in_default.ensures)
+    (subst (TidiedTo e c.loop-change.made) same c.loop-change.invariant.tidied)
+
+pub returns-else-made-gt0-clause-tidies : goal.returns-else-made-gt0-clause-tidies
+returns-else-made-gt0-clause-tidies g c =
+    let here = c.loop-change.self in
+    let none : 0 ≡ c.loop-change.made = omega (arith, c.if-made-gt0.false) in
+    let same : here ≡ c.args.self.now = c.loop-change.invariant.unchanged (omega (arith, c.if-made-gt0.false)) in
+    subst
+    (λ k. Tidies k (contents_of c.args.self.now) (Some (contents_of here)))
+    none
+    (subst (λ s. Tidies 0 (contents_of s) (Some (contents_of here))) same (c.in_default.ensures, refl))

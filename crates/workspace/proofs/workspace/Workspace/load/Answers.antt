@@ -8,6 +8,6 @@ pub returns-clause-does : goal.returns-clause-does
 returns-clause-does g c =
     let none : 0 ≡ depth (model_of c.args.self.now) = omega (arith, c.depth.ensures, c.if-depth-gt0.false) in
     subst
-    (λ d. LoadsAt d c.args.file.now (model_of c.args.self.now) loaded (Some (contents_of c.in_ok-verified.field-0)))
+    (λ d. LoadsAt d c.args.file.now (model_of c.args.self.now) loaded (Some (contents_of c.load.new.self)))
     none
-    (c.in_ok-verified.ensures.found (model_of c.args.self.now))
+    (c.in_ok-examine.ensures.found.0 (model_of c.args.self.now) (Some (contents_of c.load.new.self)) c.load.ensures.holds)

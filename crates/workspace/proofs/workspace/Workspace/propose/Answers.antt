@@ -8,10 +8,10 @@ use Rattle.workspace.proofs.workspace.Workspace.propose.Goals as goal
 
 pub returns-clause-does : goal.returns-clause-does
 returns-clause-does g c =
-    let innermost : is_not_innermost (Some (contents_of c.in-Some.held)) c.args.attempt.now ≡ false =
+    let innermost : is_not_innermost (Some (contents_of c.self.inside.held)) c.args.attempt.now ≡ false =
     c.is_innermost.ensures ∙ ap not c.if-not-is_innermost.false in
-    let inside : c.args.place < c.in-Some.held.unit.len = omega (arith, c.if-place-unit.false, ap (λ (u : TheUnit). u.len) c.unit.ensures) in
-    let place : nat_le c.in-Some.held.unit.len c.args.place ≡ false = lt-leb c.in-Some.held.unit.len c.args.place inside in
+    let inside : c.args.place < c.self.inside.held.unit.len = omega (arith, c.if-place-unit.false, ap (λ (u : TheUnit). u.len) c.unit.ensures) in
+    let place : nat_le c.self.inside.held.unit.len c.args.place ≡ false = lt-leb c.self.inside.held.unit.len c.args.place inside in
     let made = c.change.ensures.changes in
-    rw (← c.self.view_is, c.in-Some.is, innermost, place)
+    rw (← c.self.view_is, c.if-not-self.false, innermost, place)
     (inl (c.may_become.ensures.decides.0 c.if-not-may_become.false, refl, made.0, made.1, made.2))
