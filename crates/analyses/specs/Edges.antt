@@ -80,3 +80,12 @@ instr_at u p = slice_index_or (held u) p Nop
 pub record EdgesAreWays (u : TheUnit) : Type 0 where
   pub ways : (e : ℕ) → e < length (edges_of u) → Leads (held u) (start_of u e) (instr_at u (start_of u e)) (is_jump u e) (end_of u e)
   pub all : (p : ℕ) (i : Instr) (j : Bool) (q : ℕ) → Leads (held u) p i j q → (e : ℕ) × (e < length (edges_of u)) × (edge_at u e ≡ edge p q j)
+
+-- two instructions lead equally far, by either way
+abbrev pub GoAlike : Instr → Instr → Type 0
+GoAlike a b = (distance a false ≡ distance b false) × (distance a true ≡ distance b true)
+
+-- as many instructions, and at each place instructions that lead equally far
+pub record LeadAlike (u v : TheUnit) : Type 0 where
+  pub len : u.len ≡ v.len
+  pub ways : (p : ℕ) → p < u.len → GoAlike (slice_index_or u.code p Nop) (slice_index_or v.code p Nop)

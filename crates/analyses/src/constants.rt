@@ -71,6 +71,11 @@ impl Analysis for Constants {
     }
 
     #[inline(always)]
+    fn carries_least(_graph: &Graph, _edge: usize, fact: &Frame<ConstCell>) -> bool {
+        !fact.is_reached()
+    }
+
+    #[inline(always)]
     fn first_edge(graph: &Graph, node: usize) -> Option<usize> {
         graph.first_out(node)
     }

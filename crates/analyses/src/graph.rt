@@ -1,12 +1,16 @@
 //! The edges of a unit, out of each place and into it.
-ghost use Rattle.std.specs.Prelude.{◌≡◌, ◌+◌, ◌<◌, length};
+ghost use Rattle.std.specs.Prelude.{◌≡◌, ◌+◌, ◌<◌, length, OnErr};
+ghost use Rattle.bytecode.specs.Files.{Outcome, reading};
 ghost use Rattle.analyses.specs.Edges.{edges_of, edge_at, start_of, end_of, instr_at};
-ghost use Rattle.analyses.specs.Graphs.{NextKey};
+ghost use Rattle.analyses.specs.Graphs.{NextKey, IsGraph};
 
 use crate::chains::{Chains, Side, entry};
 use crate::edge::Edge;
 use crate::edges::Edges;
+use crate::ways::leads_alike;
+use bytecode::fault::ReadFault;
 use bytecode::instr::Instr;
+use bytecode::read::read_into;
 use bytecode::unit::Unit;
 use std::marker::Model;
 
@@ -50,10 +54,22 @@ impl Graph {
     pub fn set(&mut self, unit: &Unit)
         ensures { self.new ≡ unit.now }
     {
+        // A change of the code moves an edge only now and then.
+        let alike = leads_alike(&self.unit, unit);
         self.unit.turn_to(unit);
-        self.edges.fill(unit);
-        self.out.fill(self.edges.as_slice(), Side::Start);
-        self.into.fill(self.edges.as_slice(), Side::End);
+        if !alike {
+            find_edges(unit, &mut self.edges, &mut self.out, &mut self.into);
+        }
+    }
+
+    /// Turns to the unit that a file's bytes are. A refusal leaves it as it was.
+    pub fn read(&mut self, file: &[u8]) -> Result<(), ReadFault>
+        ensures answer { Outcome file.now (reading result self.new) }
+        ensures refused { OnErr result (self.new ≡ self.old) }
+    {
+        read_into(file, &mut self.unit)?;
+        find_edges(&self.unit, &mut self.edges, &mut self.out, &mut self.into);
+        Ok(())
     }
 
     pub fn unit(&self) -> &Unit
@@ -116,4 +132,14 @@ impl Graph {
     {
         entry(&self.into.next, edge)
     }
+}
+
+/// Finds the edges of a unit anew, out of each place and into it.
+fn find_edges(unit: &Unit, edges: &mut Edges, out: &mut Chains, into: &mut Chains)
+    requires room { (length out.old.next ≡ 256) × (length into.old.next ≡ 256) }
+    ensures { IsGraph unit.now edges.new out.new into.new }
+{
+    edges.fill(unit);
+    out.fill(edges.as_slice(), Side::Start);
+    into.fill(edges.as_slice(), Side::End);
 }

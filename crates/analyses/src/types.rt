@@ -70,6 +70,11 @@ impl Analysis for Types {
     }
 
     #[inline(always)]
+    fn carries_least(_graph: &Graph, _edge: usize, fact: &Frame<TypeCell>) -> bool {
+        !fact.is_reached()
+    }
+
+    #[inline(always)]
     fn first_edge(graph: &Graph, node: usize) -> Option<usize> {
         graph.first_out(node)
     }

@@ -1,5 +1,5 @@
 -- A file has one answer, and reading undoes writing.
-use Rattle.std.proofs.Common.{◌≡◌, ℕ, ◌+◌, ◌*◌, ◌<◌, ◌≤◌, true, List, map, length, get_or, take, drop, IfOk, Ok, Err, Result, sym, refl, ap, ◌∙◌, subst, ⊎_elim, arith, take_at}
+use Rattle.std.proofs.Common.{◌≡◌, ℕ, ◌+◌, ◌*◌, ◌<◌, ◌≤◌, true, List, map, length, get_or, take, drop, IfOk, OnErr, Ok, Err, Result, sym, refl, ap, ◌∙◌, subst, ⊎_elim, arith, take_at}
 use mathlib.Core.HLevel.{is_prop→PathP}
 use Rattle.std.proofs.lemmas.List.{length-take-le, length-map, get_or-map, get_or-take, ext_get_or}
 use Rattle.std.proofs.lemmas.Bool.{and_parts, cases_lt, cases_order}
@@ -14,7 +14,7 @@ use Rattle.bytecode.specs.declared.instr.Instr.TheVariants.{Nop}
 use Rattle.bytecode.specs.declared.unit.Unit.{Unit as TheUnit}
 use Rattle.bytecode.specs.Instructions.{row, word, in_range, standing}
 use Rattle.bytecode.specs.Layout.{encoded, body, file, part}
-use Rattle.bytecode.specs.Files.{held, bytes_of, Sized, Framed, FileGets, CodeRead, Good, LowestBad, Gets, Outcome, Only, Written, WritesBack, ReadsBack, WriteOutcome}
+use Rattle.bytecode.specs.Files.{held, bytes_of, Sized, Framed, FileGets, CodeRead, Good, LowestBad, Gets, Outcome, Only, Written, WritesBack, ReadsBack, WriteOutcome, reading}
 use Rattle.bytecode.proofs.Held.{length-held}
 use Rattle.bytecode.proofs.Words.{arg_fits, encoded_one, word_one}
 use Rattle.bytecode.proofs.Files.{file_long, file-part, file_summed, whole_file}
@@ -150,3 +150,15 @@ pub record Read (f : List ℕ) (r : Result TheUnit ReadFault) : Type 0 where
 
 pub read_from : (f : List ℕ) (r : Result TheUnit ReadFault) → Outcome f r → Read f r
 read_from f r o = record { answer = o; only = λ s p. one_outcome f s r p o; back = writes_back f r o }
+
+-- all that `read_into` says of its answer, and of the unit that it turned
+pub record ReadInto (f : List ℕ) (u v : TheUnit) (r : Result (Unit {0}) ReadFault) : Type 0 where
+  pub answer : Outcome f (reading r v)
+  pub only : Only f (reading r v)
+  pub back : WritesBack f (reading r v)
+  pub refused : OnErr r (v ≡ u)
+
+pub read_refused : (f : List ℕ) (u : TheUnit) (r : Result (Unit {0}) ReadFault) (fault : ReadFault) → r ≡ Err fault → Gets f fault → ReadInto f u u r
+read_refused f u r fault e g =
+    let all = read_from f (Err fault) g in
+    subst (ReadInto f u u) (sym e) (record { answer = all.answer; only = all.only; back = all.back; refused = refl })

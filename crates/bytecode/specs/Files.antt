@@ -86,6 +86,11 @@ abbrev pub Gets : List ℕ → ReadFault → Type 0
 Gets f (File fault) = FileGets f fault
 Gets f (InUnit fault) = (n : ℕ) × Framed f n × LowestBad f n fault.place
 
+-- what was read into the unit u, or the fault
+abbrev pub reading : Result (Unit {0}) ReadFault → TheUnit → Result TheUnit ReadFault
+reading (Ok done) u = Ok u
+reading (Err fault) u = Err fault
+
 -- what reading the file answers
 abbrev pub Outcome : List ℕ → Result TheUnit ReadFault → Type 0
 Outcome f (Ok u) = bytes_of u ≡ f

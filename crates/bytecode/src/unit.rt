@@ -43,9 +43,24 @@ impl Unit {
     pub fn turn_to(&mut self, other: &Unit)
         ensures { self.new ≡ other.now }
     {
-        copy_first(&mut self.code, &other.code, self.len.max(other.len));
-        self.locals = other.locals;
-        self.len = other.len;
+        self.turn_to_code(other.locals, other.len, &other.code);
+    }
+
+    /// As `turn_to`, of a unit that is told by its fields.
+    pub(crate) fn turn_to_code(&mut self, locals: u8, len: usize, code: &[Instr; 128])
+        requires whole { length code.now ≡ 128 }
+        requires few { locals ≤ 16 }
+        requires some { 1 ≤ len }
+        requires most { len ≤ 128 }
+        requires rules { (k : ℕ) → k < len → sound locals k len (slice_index_or code.now k Nop) ≡ true }
+        requires blank { (k : ℕ) → len ≤ k → k < 128 → slice_index_or code.now k Nop ≡ Nop }
+        ensures locals { self.new.locals ≡ locals }
+        ensures len { self.new.len ≡ len }
+        ensures code { self.new.code ≡ code.now }
+    {
+        copy_first(&mut self.code, code, self.len.max(len));
+        self.locals = locals;
+        self.len = len;
     }
 
     /// The instructions of the routine.

@@ -5,4 +5,6 @@ pub mod Between
 pub mod Running
 pub mod Solvable
 pub mod Spreading
+pub mod InPlace
+pub mod Copying
 pub mod Queues

@@ -50,8 +50,11 @@ impl Policy for FirstIn {
         ensures empty { IsEmpty (is_member self.new) }
         ensures queue { self.new ≡ [] }
     {
-        self.len = 0;
-        self.marks = [false; 128];
+        // Without a node there is no mark.
+        if self.len > 0 {
+            self.len = 0;
+            self.marks = [false; 128];
+        }
     }
 
     fn add(&mut self, node: usize) -> bool

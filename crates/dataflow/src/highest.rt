@@ -42,8 +42,10 @@ impl Policy for Highest {
     ghost pending = { is_marked };
 
     fn clear(&mut self) {
-        self.marks = [false; 128];
-        self.end = 0;
+        if self.end > 0 {
+            self.marks = [false; 128];
+            self.end = 0;
+        }
     }
 
     fn add(&mut self, node: usize) -> bool {
@@ -59,7 +61,10 @@ impl Policy for Highest {
         ensures taken { Takes (is_marked self.old) (is_marked self.new) result }
         ensures highest { IfSome result (IsHighest (is_marked self.old)) }
     {
-        let node = highest_below(&self.marks, self.end)?;
+        let Some(node) = highest_below(&self.marks, self.end) else {
+            self.end = 0;
+            return None;
+        };
         self.marks[node] = false;
         self.end = node;
         Some(node)

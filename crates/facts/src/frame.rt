@@ -17,7 +17,7 @@ pub enum Frame<C: Cell> {
 }
 
 impl<C: Cell> Frame<C> {
-    ghost use Rattle.facts.specs.declared.frame.Frame.TheVariants.{Unreached, At};
+    ghost use Rattle.facts.specs.declared.frame.Frame.TheVariants.{Unreached, At, Clash};
 
     /// Before the first instruction: no value, and nothing known of the locals.
     pub fn entry() -> Frame<C>
@@ -53,12 +53,12 @@ impl<C: Cell> Frame<C> {
                     if cells.height() == others.height() {
                         cells.join(others)
                     } else {
-                        *self = Frame::Clash;
+                        self.set_clash();
                         true
                     }
                 }
                 Frame::Clash => {
-                    *self = Frame::Clash;
+                    self.set_clash();
                     true
                 }
             },
@@ -73,9 +73,24 @@ impl<C: Cell> Frame<C> {
     {
         match way {
             Way::On => {}
-            Way::Nowhere => *self = Frame::Unreached,
-            Way::Clash => *self = Frame::Clash,
+            Way::Nowhere => self.set_unreached(),
+            Way::Clash => self.set_clash(),
         }
+    }
+
+    // A function of its own, as `set_clash`: a frame that a function makes is cleared whole wherever that function is entered.
+    #[inline(never)]
+    fn set_unreached(&mut self)
+        ensures { self.new ≡ Unreached }
+    {
+        *self = Frame::Unreached;
+    }
+
+    #[inline(never)]
+    fn set_clash(&mut self)
+        ensures { self.new ≡ Clash }
+    {
+        *self = Frame::Clash;
     }
 
     /// The cell of the top value; none where there is no value.

@@ -69,6 +69,7 @@ fn dead_store(instr: Instr, known: &Frame<ConstCell>, live: LiveSet) -> Option<I
 }
 
 /// What the rule makes of the instruction, before which `known` is known and after which `live` is live; none where it yields nothing.
+#[inline(always)]
 pub fn yielded(rule: Rule, instr: Instr, known: &Frame<ConstCell>, live: LiveSet) -> Option<Instr>
     ensures { Yielded rule instr known.now live result }
 {

@@ -12,7 +12,6 @@ use crate::refusal::LoadFault;
 use analyses::graph::Graph;
 use analyses::types::Types;
 use analyses::verify::judge_solved;
-use bytecode::read::read;
 use dataflow::policy::Policy;
 use facts::cell::TypeCell;
 use facts::frame::Frame;
@@ -52,11 +51,7 @@ fn examine<T: Policy>(
     ensures found { ExaminedIn file.now graph.new types.new.facts types.new.takes result }
     ensures policy { EmptiedByExamining T.pending result policy.old policy.new }
 {
-    // By reference: a unit that is moved out of its result is copied twice more.
-    match &read(file) {
-        Ok(unit) => graph.set(unit),
-        Err(fault) => return Err(LoadFault::from(*fault)),
-    }
+    graph.read(file)?;
     solve::<Types, T>(graph, policy, types);
     judge_solved(graph, &types.facts)?;
     Ok(())

@@ -1,6 +1,6 @@
 use Rattle.std.proofs.Common.{◌-◌}
 use Rattle.dataflow.proofs.Spreading.{Following, reached}
-use Rattle.dataflow.proofs.solve.spread.Given as goal
+use Rattle.dataflow.proofs.solve.spread_copy.Given as goal
 
 abbrev pub invariant-loop-out : goal.invariant-loop-out
 invariant-loop-out g l =
