@@ -24,7 +24,7 @@ static BITS: [u128; NODES as usize] = {
 
 /// Takes the node that has been pending longest.
 pub struct FirstIn {
-    pending: u128,
+    pending: [bool; NODES as usize],
     ring: [u8; NODES as usize],
     /// Where the ring is taken from and added to. They count on past its end, so that they are alike only when it is empty.
     first: u8,
@@ -33,20 +33,22 @@ pub struct FirstIn {
 
 impl FirstIn {
     pub const fn new() -> FirstIn {
-        FirstIn { pending: 0, ring: [0; NODES as usize], first: 0, last: 0 }
+        FirstIn { pending: [false; NODES as usize], ring: [0; NODES as usize], first: 0, last: 0 }
     }
 }
 
 impl Policy for FirstIn {
     fn clear(&mut self) {
-        (self.pending, self.first, self.last) = (0, 0, 0);
+        if self.first != self.last {
+            self.pending = [false; NODES as usize];
+        }
+        (self.first, self.last) = (0, 0);
     }
 
     #[inline(always)]
     fn add(&mut self, node: u8) -> bool {
-        let Some(bit) = BITS.get(usize::from(node)) else { return false };
-        if self.pending & bit == 0 {
-            self.pending |= bit;
+        let Some(pending) = self.pending.get_mut(usize::from(node)) else { return false };
+        if !std::mem::replace(pending, true) {
             self.ring[usize::from(self.last % NODES)] = node;
             self.last = self.last.wrapping_add(1);
         }
@@ -59,7 +61,7 @@ impl Policy for FirstIn {
             return None;
         }
         let node = self.ring[usize::from(self.first % NODES)];
-        self.pending ^= BITS[usize::from(node)];
+        self.pending[usize::from(node)] = false;
         self.first = self.first.wrapping_add(1);
         Some(node)
     }

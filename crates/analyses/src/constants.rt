@@ -66,8 +66,7 @@ impl Analysis for Constants {
 
     #[inline(always)]
     fn carry(graph: &Graph, edge: usize, fact: &mut Frame<ConstCell>) {
-        let edge = graph.edge(edge);
-        carry_constants(graph.instr(edge.start), edge.jump, fact);
+        carry_constants(graph.instr_at_start(edge), graph.edge(edge).jump, fact);
     }
 
     #[inline(always)]

@@ -103,6 +103,31 @@ impl Graph {
         self.edges.as_slice()[edge]
     }
 
+    /// The instruction at a place of the unit.
+    // Read where it stands: after a test of the place it would be put together anew.
+    fn instr_within(&self, place: usize) -> Instr
+        requires { place < self.now.len }
+        ensures { result ≡ instr_at self.now place }
+    {
+        self.unit.code[place]
+    }
+
+    /// The instruction at the place that an edge comes from.
+    pub(crate) fn instr_at_start(&self, edge: usize) -> Instr
+        requires { edge < length (edges_of self.now) }
+        ensures { result ≡ instr_at self.now (start_of self.now edge) }
+    {
+        self.instr_within(self.edge(edge).start)
+    }
+
+    /// The instruction at the place that an edge goes to.
+    pub(crate) fn instr_at_end(&self, edge: usize) -> Instr
+        requires { edge < length (edges_of self.now) }
+        ensures { result ≡ instr_at self.now (end_of self.now edge) }
+    {
+        self.instr_within(self.edge(edge).end)
+    }
+
     /// The lowest edge out of a place.
     pub(crate) fn first_out(&self, place: usize) -> Option<usize>
         ensures { NextKey (start_of self.now) (length (edges_of self.now)) place 0 result }

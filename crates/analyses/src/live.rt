@@ -54,7 +54,7 @@ impl Analysis for Live {
     }
 
     fn carry(graph: &Graph, edge: usize, fact: &mut LiveSet) {
-        *fact = carry_live(graph.instr(graph.edge(edge).end), *fact);
+        *fact = carry_live(graph.instr_at_end(edge), *fact);
     }
 
     fn first_edge(graph: &Graph, node: usize) -> Option<usize> {

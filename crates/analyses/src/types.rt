@@ -66,7 +66,7 @@ impl Analysis for Types {
 
     #[inline(always)]
     fn carry(graph: &Graph, edge: usize, fact: &mut Frame<TypeCell>) {
-        carry_types(graph.instr(graph.edge(edge).start), fact);
+        carry_types(graph.instr_at_start(edge), fact);
     }
 
     #[inline(always)]

@@ -8,3 +8,4 @@ pub mod Spreading
 pub mod InPlace
 pub mod Copying
 pub mod Queues
+pub mod Below

@@ -1,5 +1,5 @@
 -- The nodes of a queue, the one that was added longest ago first. Assumes nothing.
-use Rattle.std.specs.Prelude.{◌≡◌, ℕ, ◌<◌, ◌≤◌, Bool, true, false, ◌||◌, ◌==◌, List, [], ◌∷◌, ◌++◌, take, drop, length, cond, slice_index_or, ◌+◌, Option, Some, None}
+use Rattle.std.specs.Prelude.{◌≡◌, ℕ, ◌<◌, ◌≤◌, Bool, true, false, ◌||◌, ◌==◌, zero, suc, List, [], ◌∷◌, ◌++◌, take, drop, length, cond, slice_index_or, ◌+◌, Option, Some, None}
 
 -- v is one of the nodes
 abbrev pub is_member : List ℕ → ℕ → Bool
@@ -10,6 +10,11 @@ is_member (x ∷ xs) v = v == x || is_member xs v
 abbrev pub TakesFirst : List ℕ → List ℕ → Option ℕ → Type 0
 TakesFirst old new None = (old ≡ []) × (new ≡ [])
 TakesFirst old new (Some v) = old ≡ v ∷ new
+
+-- the nodes below n, the lowest first
+abbrev pub rising : ℕ → List ℕ
+rising zero = []
+rising (suc n) = rising n ++ n ∷ []
 
 -- each node stands in the queue once
 abbrev pub StandsOnce : List ℕ → Type 0

@@ -1,9 +1,13 @@
 -- A set of pending nodes, and what adding to it and taking from it do. Assumes nothing.
-use Rattle.std.specs.Prelude.{◌≡◌, ◌≢◌, ℕ, ◌<◌, Bool, true, false, Some, None, Option, nat_lt}
+use Rattle.std.specs.Prelude.{◌≡◌, ◌≢◌, ℕ, ◌<◌, Bool, true, false, ◌&&◌, Some, None, Option, nat_lt}
 
 -- no node is pending
 abbrev pub IsEmpty : (ℕ → Bool) → Type 0
 IsEmpty p = (v : ℕ) → p v ≡ false
+
+-- the pending nodes are those below n, of the 128 that there are
+abbrev pub AreBelow : ℕ → (ℕ → Bool) → Type 0
+AreBelow n p = (v : ℕ) → p v ≡ (nat_lt v n && nat_lt v 128)
 
 -- every node but v is as it was
 abbrev pub SameBut : ℕ → (ℕ → Bool) → (ℕ → Bool) → Type 0

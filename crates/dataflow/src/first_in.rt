@@ -1,7 +1,7 @@
 //! The policy that takes the node added longest ago.
-ghost use Rattle.std.specs.Prelude.{◌≡◌, ℕ, ◌<◌, ◌≤◌, true, false, [], ◌∷◌, ◌++◌};
-ghost use Rattle.dataflow.specs.FirstIn.{is_member, TakesFirst};
-ghost use Rattle.dataflow.specs.Pending.{IsEmpty, Adds, Takes};
+ghost use Rattle.std.specs.Prelude.{◌≡◌, ℕ, ◌<◌, ◌≤◌, true, false, [], ◌∷◌, ◌++◌, min, slice_index_or};
+ghost use Rattle.dataflow.specs.FirstIn.{is_member, rising, window, TakesFirst, IsRing};
+ghost use Rattle.dataflow.specs.Pending.{IsEmpty, AreBelow, Adds, Takes};
 
 use crate::policy::Policy;
 use std::marker::Model;
@@ -10,9 +10,9 @@ use std::marker::Model;
 #[derive(Drop)]
 pub struct FirstIn {
     // A ring: the first node is at `head`, and the next is behind it, around the end.
-    slots: [u8; 128],
     head: usize,
     len: usize,
+    slots: [u8; 128],
     // Whether each node is in the ring, so that `add` need not go over them.
     marks: [bool; 128],
 }
@@ -35,9 +35,9 @@ impl FirstIn {
         ensures empty { IsEmpty (is_member result) }
     {
         FirstIn {
-            slots: [0; 128],
             head: 0,
             len: 0,
+            slots: [0; 128],
             marks: [false; 128],
         }
     }
@@ -86,5 +86,29 @@ impl Policy for FirstIn {
         self.len -= 1;
         self.marks[node] = false;
         Some(node)
+    }
+
+    fn fill(&mut self, count: usize)
+        ensures filled { AreBelow count (is_member self.new) }
+        ensures queue { self.new ≡ rising (min count 128) }
+    {
+        let count = count.min(128);
+        self.clear();
+        stand_in_order(&mut self.slots, &mut self.marks, count);
+        self.head = 0;
+        self.len = count;
+    }
+}
+
+/// Makes the nodes below `count` stand in the ring in rising order, from the first slot on.
+fn stand_in_order(slots: &mut [u8; 128], marks: &mut [bool; 128], count: usize)
+    requires few { count ≤ 128 }
+    requires unmarked { (v : ℕ) → slice_index_or marks.old v false ≡ false }
+    ensures ring { IsRing 0 count slots.new marks.new }
+    ensures nodes { window 0 count slots.new ≡ rising count }
+{
+    for node in 0..count {
+        slots[node] = node as u8;
+        marks[node] = true;
     }
 }

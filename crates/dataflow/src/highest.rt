@@ -1,5 +1,5 @@
 //! The policy that takes the highest node.
-ghost use Rattle.std.specs.Prelude.{◌≡◌, ◌+◌, ◌<◌, ◌≤◌, true, IfSome, MatchOption};
+ghost use Rattle.std.specs.Prelude.{◌≡◌, ℕ, ◌+◌, ◌<◌, ◌≤◌, true, nat_lt, IfSome, MatchOption};
 ghost use Rattle.dataflow.specs.Highest.{is_marked, NoneMarked, IsHighest};
 ghost use Rattle.dataflow.specs.Pending.{IsEmpty, Takes};
 
@@ -9,10 +9,10 @@ use std::marker::Model;
 /// Takes the highest pending node.
 #[derive(Drop)]
 pub struct Highest {
-    // Whether each node is pending. Bits of a number would be shifted by two registers at each call.
-    marks: [bool; 128],
     // Above every pending node, and where the next take begins to look.
     end: usize,
+    // Whether each node is pending. Bits of a number would be shifted by two registers at each call.
+    marks: [bool; 128],
 }
 
 impl Model for Highest {
@@ -32,8 +32,8 @@ impl Highest {
         ensures { IsEmpty (is_marked result) }
     {
         Highest {
-            marks: [false; 128],
             end: 0,
+            marks: [false; 128],
         }
     }
 }
@@ -68,6 +68,24 @@ impl Policy for Highest {
         self.marks[node] = false;
         self.end = node;
         Some(node)
+    }
+
+    fn fill(&mut self, count: usize) {
+        let count = count.min(128);
+        self.clear();
+        mark_below(&mut self.marks, count);
+        self.end = count;
+    }
+}
+
+/// Marks the nodes below `count`.
+fn mark_below(marks: &mut [bool; 128], count: usize)
+    requires few { count ≤ 128 }
+    requires unmarked { NoneMarked marks.old 0 128 }
+    ensures { (v : ℕ) → is_marked marks.new v ≡ nat_lt v count }
+{
+    for node in 0..count {
+        marks[node] = true;
     }
 }
 

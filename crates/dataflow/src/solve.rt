@@ -42,10 +42,7 @@ fn start<A: Analysis, P: Policy>(code: &A::Code, policy: &mut P, facts: &mut [A:
     for node in 0..A::nodes(code) {
         facts[node] = A::seed(code, node);
     }
-    policy.clear();
-    for node in 0..A::nodes(code) {
-        policy.add(node);
-    }
+    policy.fill(A::nodes(code));
 }
 
 /// Carries the fact that `node` has along each edge out of it.

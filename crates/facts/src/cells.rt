@@ -182,13 +182,28 @@ fn join_cells<C: Cell>(cells: &mut [C], others: &[C], count: usize) -> bool
 {
     let mut changed = false;
     for k in 0..count {
-        let joined = cells[k].join(others[k]);
-        if !cells[k].same(joined) {
-            cells[k] = joined;
-            changed = true;
-        }
+        changed = join_cell(&mut cells[k], others[k]) || changed;
     }
     changed
+}
+
+/// Joins a cell into another, and answers whether that changed it.
+#[inline(always)]
+fn join_cell<C: Cell>(cell: &mut C, other: C) -> bool
+    ensures joined { cell.new ≡ C.joined cell.old other }
+    ensures changed { IsTrue result → cell.new ≢ cell.old }
+    ensures same { result ≡ false → cell.new ≡ cell.old }
+{
+    // Asked first, since most cells say nothing: nothing is above the greatest.
+    if cell.same(C::top()) {
+        return false;
+    }
+    let joined = cell.join(other);
+    if cell.same(joined) {
+        return false;
+    }
+    *cell = joined;
+    true
 }
 
 /// Whether two lists of cells of one length are the same.

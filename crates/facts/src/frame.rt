@@ -43,7 +43,7 @@ impl<C: Cell> Frame<C> {
             Frame::Unreached => match other {
                 Frame::Unreached => false,
                 Frame::At(_) | Frame::Clash => {
-                    *self = *other;
+                    self.turn_to(other);
                     true
                 }
             },
@@ -78,7 +78,14 @@ impl<C: Cell> Frame<C> {
         }
     }
 
-    // A function of its own, as `set_clash`: a frame that a function makes is cleared whole wherever that function is entered.
+    // A function of its own, as the next two: a frame that a function makes is cleared whole wherever that function is entered.
+    #[inline(never)]
+    fn turn_to(&mut self, other: &Frame<C>)
+        ensures { self.new ≡ other.now }
+    {
+        *self = *other;
+    }
+
     #[inline(never)]
     fn set_unreached(&mut self)
         ensures { self.new ≡ Unreached }
