@@ -3,7 +3,7 @@ ghost use Rattle.std.specs.Prelude.{◌≡◌, ◌≢◌, ◌<◌, IfOk, IfErr};
 ghost use Rattle.workspace.specs.Does.{depth as depth_of};
 ghost use Rattle.workspace.specs.Stored.{model_of};
 
-use crate::pick::Picks;
+use picks::pick::Picks;
 use workspace::refusal::Refusal;
 use workspace::workspace::{Attempt, Workspace};
 

@@ -3,7 +3,7 @@ use crate::error::Error;
 use crate::histories::compare_history;
 use crate::tally::Tally;
 use crate::units::compare_file;
-use generate::random::Random;
+use draws::random::Random;
 use generate::{Made, file};
 use std::fmt;
 

@@ -1,10 +1,10 @@
 //! Compares what the two sides say to the same list of calls, and what the library says where an abandoned attempt is cut out of it.
-use crate::pick::{Picks, any_policies};
 use crate::sides::{call_of, front, leaves_the_rest, say_of};
 use crate::tally::Tally;
 use bytecode::fault::TooShort;
+use draws::random::Random;
 use generate::calls as asks_about;
-use generate::random::Random;
+use picks::pick::{Picks, any_policies};
 use second::desk::{Ask, Desk, Say};
 use std::alloc::{AllocError, Global};
 use workspace::events::{Call, Reply};

@@ -1,6 +1,5 @@
 //! The sample units, through the library's public calls.
 use crate::attempt::tidy_and_keep;
-use crate::pick::PickName;
 use crate::sides::{fault_of_load, row_of};
 use bytecode::instr::Instr;
 use facts::cell::{Cell, ConstCell, TypeCell};
@@ -8,6 +7,7 @@ use facts::constants::carry_constants;
 use facts::frame::Frame;
 use facts::types::carry_types;
 use machine::answer::Answer;
+use picks::pick::PickName;
 use second::fault::Fault;
 use second::file::written;
 use second::routine::{Routine, Row};

@@ -2,8 +2,8 @@
 use crate::sides::{fault_of, told_of};
 use crate::tally::Tally;
 use bytecode::unit::Unit;
+use draws::random::Random;
 use generate::inputs;
-use generate::random::Random;
 use machine::answer::Answer;
 use machine::ending::Ending;
 use machine::run::run as run_unit;

@@ -1,15 +1,15 @@
 //! Compares what the two sides say of one file.
 use crate::attempt::tidy_and_keep;
-use crate::pick::PickName;
 use crate::sides::{bits_of, fault_of, fault_of_load, routine_of, row_of, shape_of};
 use crate::tally::Tally;
 use crate::trials::{Trial, compare_runs, trials};
 use crate::unverified::compare_unverified;
 use crate::written::compare_written;
 use bytecode::instr::Instr;
+use draws::random::Random;
 use facts::frame::Frame;
 use generate::Made;
-use generate::random::Random;
+use picks::pick::PickName;
 use rewrite::rule::Rule;
 use rewrite::yields::yielded as yielded_by;
 use second::facts::{Facts, facts_of};

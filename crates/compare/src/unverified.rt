@@ -1,5 +1,4 @@
 //! Compares what is known of units that the verifier refuses. They alone have Clash, and runs that end Stuck.
-use crate::pick::{PickName, Picks};
 use crate::tally::Tally;
 use crate::trials::{compare_unverified_runs, trials};
 use crate::units::compare_facts;
@@ -10,10 +9,11 @@ use analyses::solution::solution;
 use analyses::types::Types;
 use bytecode::read::read;
 use bytecode::unit::Unit;
+use draws::random::Random;
 use facts::cell::{ConstCell, TypeCell};
 use facts::frame::Frame;
 use facts::live::LiveSet;
-use generate::random::Random;
+use picks::pick::{PickName, Picks};
 use second::facts::{Facts, facts_of};
 use second::file::read as read_routine;
 use std::alloc::{AllocError, Global};

@@ -1,7 +1,7 @@
 //! Compares the file that a held unit is written to.
-use crate::pick::PickName;
 use crate::sides::{fault_of, fault_of_load, routine_of};
 use crate::tally::Tally;
+use picks::pick::PickName;
 use second::desk::Say;
 use second::fault::Fault;
 use second::file::written;

@@ -1,8 +1,8 @@
 //! Statements with branches: each is opened, has other statements in it, and is closed.
 use crate::draft::{Draft, Outer, Stores};
-use crate::random::Random;
 use crate::rows::{flag, local, number, plain, with_argument};
 use crate::state::State;
+use draws::random::Random;
 use second::facts::Kind;
 use second::operation::{DJMP, DUP, EQ, JF, JMP, LOAD, LT, NOT, POP, STORE, SUB, TALLEST};
 use std::alloc::AllocError;

@@ -1,7 +1,7 @@
 //! Faults put into good routines and files.
-use crate::random::Random;
 use crate::rows::{any_in_range, displacement, plain, with_argument};
 use crate::structured::structured;
+use draws::random::Random;
 use second::file::{check_of, written};
 use second::operation::{
     ADD, DIV, DJMP, EQ, JF, JMP, LIT, LITF, LOAD, LT, MUL, NOP, NOT, OUT, STORE, SUB,

@@ -1,8 +1,8 @@
 //! Lists of calls on a workspace.
 use crate::made::{file, inputs};
 use crate::proposals::proposal;
-use crate::random::Random;
 use crate::structured::structured;
+use draws::random::Random;
 use second::desk::Ask;
 use second::facts::facts_of;
 use second::file::{ROW_LENGTH, written};

@@ -8,7 +8,6 @@ mod history;
 mod made;
 mod phrases;
 mod proposals;
-pub mod random;
 mod rows;
 mod scattered;
 mod state;

@@ -1,8 +1,8 @@
 //! Files and inputs.
 use crate::damaged::damaged;
-use crate::random::Random;
 use crate::scattered::{scattered, tall, tangled};
 use crate::structured::structured;
+use draws::random::Random;
 use second::file::written;
 use std::alloc::{AllocError, Global};
 

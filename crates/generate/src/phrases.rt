@@ -1,7 +1,7 @@
 //! Statements without branches.
 use crate::draft::Draft;
-use crate::random::Random;
 use crate::rows::{OPERATIONS, flag, in_range, local, number, plain, with_argument};
+use draws::random::Random;
 use second::facts::Kind;
 use second::operation::{
     ADD, DIV, DUP, EQ, IN, JMP, LIT, LITF, LOAD, LT, MUL, NOP, NOT, OUT, POP, STORE, SUB, SWAP,

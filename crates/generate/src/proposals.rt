@@ -1,6 +1,6 @@
 //! Changes to propose: those that a rule is likely to yield, and some others.
-use crate::random::Random;
 use crate::rows::{LAST, any_in_range, flag, number, plain, with_argument};
+use draws::random::Random;
 use second::arithmetic::computed;
 use second::operation::{
     ADD, DIV, DJMP, DUP, EQ, HALT, JF, LIT, LITF, LOAD, LT, MUL, NOT, POP, STORE, SUB,

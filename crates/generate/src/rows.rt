@@ -1,5 +1,5 @@
 //! Rows of a routine with words in range.
-use crate::random::Random;
+use draws::random::Random;
 use second::operation::{DJMP, HALT, JF, JMP, LIT, LITF, LOAD, STORE};
 use second::routine::Row;
 

@@ -1,7 +1,7 @@
 //! Routines of instructions that do not know of each other.
-use crate::random::Random;
 use crate::rows::{LAST, OPERATIONS, any_in_range, flag, in_range, number, plain};
 use crate::state::State;
+use draws::random::Random;
 use second::operation::{ADD, DJMP, DUP, EQ, HALT, IN, JF, JMP, NOP, NOT, POP, SWAP};
 use second::routine::{Routine, Row};
 use std::alloc::{AllocError, Global};

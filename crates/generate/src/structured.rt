@@ -3,8 +3,8 @@ ghost use Rattle.std.specs.Prelude.{◌≤◌};
 
 use crate::branches::{Open, close, open_if, open_loop};
 use crate::draft::Draft;
-use crate::random::Random;
 use crate::rows::{LAST, displacement, plain, with_argument};
+use draws::random::Random;
 use second::operation::{DJMP, HALT, JMP};
 use second::routine::{Routine, Row};
 use std::alloc::{AllocError, Global};

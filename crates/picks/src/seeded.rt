@@ -1,6 +1,7 @@
 //! A pick policy that takes by a seed.
 ghost use Rattle.std.specs.Prelude.{◌≡◌, ℕ};
 ghost use Rattle.dataflow.specs.FirstIn.{is_member};
+ghost use Rattle.dataflow.specs.Pending.{IsEmpty};
 
 use dataflow::first_in::FirstIn;
 use dataflow::policy::Policy;
@@ -13,7 +14,9 @@ pub struct Seeded {
 }
 
 impl Seeded {
-    pub fn new(seed: u64) -> Seeded {
+    pub fn new(seed: u64) -> Seeded
+        ensures { IsEmpty (is_member result.queue) }
+    {
         Seeded {
             queue: FirstIn::new(),
             state: seed,

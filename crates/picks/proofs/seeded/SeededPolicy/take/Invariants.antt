@@ -1,6 +1,6 @@
 use Rattle.std.proofs.Common.{◌≡◌, ℕ}
 use Rattle.dataflow.specs.FirstIn.{is_member}
-use Rattle.compare.proofs.seeded.SeededPolicy.take.Given as goal
+use Rattle.picks.proofs.seeded.SeededPolicy.take.Given as goal
 
 -- passing over a node leaves the set of pending nodes
 abbrev pub invariant-loop : goal.invariant-loop

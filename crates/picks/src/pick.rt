@@ -1,9 +1,13 @@
-//! The pick policies that the library is given.
+//! A pick policy that is one of several.
+ghost use Rattle.dataflow.specs.Pending.{IsEmpty};
+ghost use Rattle.picks.specs.Picks.{pending_of};
+ghost use Rattle.workspace.specs.Policies.{AreEmpty};
+
 use crate::seeded::Seeded;
 use dataflow::first_in::FirstIn;
 use dataflow::highest::Highest;
 use dataflow::policy::Policy;
-use generate::random::Random;
+use draws::random::Random;
 use std::fmt;
 use workspace::policies::Policies;
 
@@ -35,7 +39,9 @@ impl PickName {
     }
 
     /// The policy, with nothing pending.
-    fn pick(self) -> Pick {
+    fn pick(self) -> Pick
+        ensures { IsEmpty (pending_of result) }
+    {
         match self {
             PickName::FirstIn => Pick::FirstIn(FirstIn::new()),
             PickName::Highest => Pick::Highest(Highest::new()),
@@ -44,7 +50,9 @@ impl PickName {
     }
 
     /// The policy for each analysis.
-    pub fn policies(self) -> Picks {
+    pub fn policies(self) -> Picks
+        ensures { AreEmpty pending_of pending_of pending_of result }
+    {
         Policies {
             types: self.pick(),
             constants: self.pick(),
@@ -75,7 +83,9 @@ pub enum Pick {
 pub type Picks = Policies<Pick, Pick, Pick>;
 
 /// A policy for each analysis, each any.
-pub fn any_policies(random: &mut Random) -> Picks {
+pub fn any_policies(random: &mut Random) -> Picks
+    ensures { AreEmpty pending_of pending_of pending_of result }
+{
     Policies {
         types: PickName::any(random).pick(),
         constants: PickName::any(random).pick(),
@@ -84,7 +94,7 @@ pub fn any_policies(random: &mut Random) -> Picks {
 }
 
 impl Policy for Pick {
-    ghost use Rattle.compare.specs.Picks.{pending_of};
+    ghost use Rattle.picks.specs.Picks.{pending_of};
 
     ghost pending = { pending_of };
 

@@ -2,8 +2,8 @@
 use Rattle.std.specs.Prelude.{ℕ, Bool}
 use Rattle.dataflow.specs.FirstIn.{is_member}
 use Rattle.dataflow.specs.Highest.{is_marked}
-use Rattle.compare.specs.declared.pick.Pick.{Pick}
-use Rattle.compare.specs.declared.pick.Pick.TheVariants.{FirstIn, Highest, Seeded}
+use Rattle.picks.specs.declared.pick.Pick.{Pick}
+use Rattle.picks.specs.declared.pick.Pick.TheVariants.{FirstIn, Highest, Seeded}
 
 abbrev pub pending_of : Pick → ℕ → Bool
 pending_of (FirstIn q) = is_member q
