@@ -40,7 +40,7 @@ refused_at d p i c n m' r t true e h does =
     absurd (cc (fails.0))
 refused_at d p i c n m' r t false e h does = absurd (cc (h.0))
 
--- a proposal is refused under a token that a refused keep gave back
+-- a keep that is refused gives its token back, under which a proposal is refused too
 pub refused_after : (d p : ℕ) (i : Instr) (m n m' : Model) (r : Refusal) (t : ℕ) → Does (keep d) m (returned r t) n → Does (propose t p i) n changed m' → ⊥
 refused_after d p i None n m' r t h does = let fails : Does (propose t p i) None changed m' = subst (λ (k : Model). Does (propose t p i) k changed m') h.1 does in absurd (cc (fails.0))
 refused_after d p i (Some c) n m' r t h does = refused_at d p i c n m' r t (is_not_innermost (Some c) d) refl h does
